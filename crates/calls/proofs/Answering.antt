@@ -1,22 +1,5 @@
 -- From line to line of a script.
-use Rattle.std.proofs.Common.{◌≡◌, ℕ, ◌+◌, ◌-◌, ◌^◌, ◌<◌, List, [], ◌∷◌, ◌++◌, length, Option, Result, Ok, Err, refl, sym, ap, subst, ◌∙◌, append_assoc, inl, inr, arith}
-use Rattle.std.specs.Prelude.{min}
-use Rattle.std.specs.Io.KnownBytes.{Appends}
-use Rattle.std.proofs.lemmas.List.{length_push, flat_map_more}
-use Rattle.std.proofs.lemmas.List.Elements.{All-nil, All-push}
-use Rattle.schedule_text.specs.declared.fault.ReplayFault.{ReplayFault}
-use Rattle.schedule_text.specs.declared.fault.ReplayFault.TheVariants.{Write}
-use Rattle.schedule_text.specs.Fault.{line_after}
-use Rattle.schedule_text.proofs.Lemmas.{bad_byte, bad_end}
-use Rattle.schedule.specs.Ports.{Writes}
-use Rattle.schedule.proofs.Lemmas.{appends_none, appends_more}
-use Rattle.call_text.specs.declared.answer.Answer.{Answer}
-use Rattle.call_text.specs.declared.call.Call.{Call}
-use Rattle.call_text.specs.Answers.{answer_line}
-use Rattle.call_text.specs.Grammar.{call_at}
-use Rattle.call_text.specs.Spelling.{IsCall, IsCallText, CallText, calls_text, spelling}
-use Rattle.call_text.proofs.Lemmas.{call_reads}
-use Rattle.schedule_text.specs.Fault.{IsBad}
+use Rattle.calls.proofs.Cited.{◌≡◌, ℕ, ◌+◌, ◌-◌, ◌^◌, ◌<◌, List, [], ◌∷◌, ◌++◌, length, Option, Result, Ok, Err, refl, sym, ap, subst, ◌∙◌, append_assoc, inl, inr, arith, min, Appends, length_push, flat_map_more, All-nil, All-push, ReplayFault, Write, line_after, bad_byte, bad_end, Writes, appends_none, appends_more, Answer, Call, answer_line, call_at, IsCall, IsCallText, CallText, calls_text, spelling, call_reads, IsBad}
 use Rattle.calls.specs.Script.{Answered, AnswersUpTo, BreaksOff, AnswersLines, Answering, WritesPiece, StopsAt}
 
 -- nothing was answered yet

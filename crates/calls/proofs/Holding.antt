@@ -1,11 +1,6 @@
 -- What a reader holds, from one line to the next.
 use Rattle.gp_memb.specs.declared.plan.GracePlan as plan
-use Rattle.std.proofs.Common.{◌≡◌, ◌<◌, refl, subst, Option, Some, None, Result, Ok, Err, IfSome, IfOk, IfErr}
-use Rattle.std.specs.Prelude.{Bool, true, false, MatchBool}
-use Rattle.rcu_hash.specs.live_read.declared.held.Held.{Held}
-use Rattle.rcu_hash.specs.live_read.declared.reader_core.ReaderCore.{ReaderCore}
-use Rattle.rcu_hash.specs.live_read.Holding.{KeepsHeld}
-use Rattle.rcu_hash.proofs.live_read.Lemmas.{held_in}
+use Rattle.calls.proofs.Cited.{◌≡◌, ◌<◌, refl, subst, Option, Some, None, Result, Ok, Err, IfSome, IfOk, IfErr, Bool, true, false, MatchBool, Held, ReaderCore, KeepsHeld, held_in}
 use Rattle.calls.specs.Standing.{Stands}
 
 -- what follows from either outcome

@@ -1,3 +1,4 @@
+mod Cited
 mod Holding
 mod Answering
 mod Scripts

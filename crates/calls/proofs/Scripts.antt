@@ -1,14 +1,5 @@
 -- A whole script.
-use Rattle.std.proofs.Common.{◌≡◌, ℕ, ◌+◌, List, [], ◌∷◌, ◌++◌, length, Option, Result, Ok, Err, refl, ap, subst, ◌∙◌, inl, inr, arith}
-use Rattle.schedule_text.specs.declared.fault.ReplayFault.{ReplayFault}
-use Rattle.schedule_text.specs.declared.fault.ReplayFault.TheVariants.{BadText, BadConfig, Read, Write, Memory}
-use Rattle.schedule_text.specs.Fault.{IsBad}
-use Rattle.schedule_text.proofs.Lemmas.{bad_byte, bad_end}
-use Rattle.schedule.specs.Ports.{ReadsNoMore}
-use Rattle.call_text.specs.declared.call.Header.{Header}
-use Rattle.call_text.specs.Grammar.{header_at}
-use Rattle.call_text.specs.Header.{HeaderText, IsHeaderText}
-use Rattle.call_text.proofs.Lemmas.{header_reads}
+use Rattle.calls.proofs.Cited.{◌≡◌, ℕ, ◌+◌, List, [], ◌∷◌, ◌++◌, length, Option, Result, Ok, Err, refl, ap, subst, ◌∙◌, inl, inr, arith, ReplayFault, BadText, BadConfig, Read, Write, Memory, IsBad, bad_byte, bad_end, ReadsNoMore, Header, header_at, HeaderText, IsHeaderText, header_reads}
 use Rattle.calls.specs.Script.{AnswersLines, AnswersIn, AnswersScript, AnswersCalls}
 use Rattle.calls.proofs.Answering.{answering_none, breaks_off}
 

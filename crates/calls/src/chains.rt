@@ -17,7 +17,7 @@ pub(crate) struct Writer<'d, P: GracePlan + Drop, B: Site> {
     chain: Chain<'d, P, AnyChain, B, Code>,
 }
 
-/// The places of so many writers, at which none is.
+/// The places of this many writers, at which none is.
 pub(crate) fn no_writers<'d, P: GracePlan + Drop, B: Site>(
     alloc: Global,
     chains: usize,

@@ -38,7 +38,7 @@ pub(crate) struct OfChains<'d, P: GracePlan + Drop, B: Site> {
 }
 
 impl<'d, P: GracePlan + Drop, B: Site> OfChains<'d, P, B> {
-    /// Nothing was called yet, in a domain of so many queues.
+    /// Nothing was called yet, in a domain of this many queues.
     pub(crate) fn new(
         alloc: Global,
         domain: &'d Domain<P, AnyChain, B, Code>,
@@ -163,7 +163,7 @@ pub(crate) struct OfMaps<'d, P: GracePlan + Drop, B: Site> {
 }
 
 impl<'d, P: GracePlan + Drop, B: Site> OfMaps<'d, P, B> {
-    /// Nothing was called yet, in a domain of so many queues.
+    /// Nothing was called yet, in a domain of this many queues.
     pub(crate) fn new(
         alloc: Global,
         domain: &'d Domain<P, Tabled, B, Code>,

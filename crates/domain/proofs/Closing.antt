@@ -1,13 +1,5 @@
 -- What is known once a queue was closed.
-use Rattle.std.proofs.Common.{Bool, ◌≡◌, ◌⊎◌, ℕ, ◌+◌, ◌<◌, ◌∷◌, [], cond, sym, refl, ap, ◌∙◌, subst, arith, eq-eqb, inl, inr}
-use mathlib.Core.Logic.{dite}
-use native.Mathlib.Decide.{ℕ_discrete}
-use Rattle.live_log.specs.declared.event.LiveEvent.{LiveEvent}
-use Rattle.live_log.specs.declared.event.LiveEvent.TheVariants.{CloseQueue}
-use Rattle.live_log.specs.Log.{Log, Begins, closed_of}
-use Rattle.live_log.proofs.Lemmas.{begins_trans, closed_stays}
-use Rattle.live_items.specs.Items.{Closes}
-use Rattle.live_read.specs.Hearing.{IsAfter}
+use Rattle.domain.proofs.Cited.{Bool, ◌≡◌, ◌⊎◌, ℕ, ◌+◌, ◌<◌, ◌∷◌, [], cond, sym, refl, ap, ◌∙◌, subst, arith, eq-eqb, inl, inr, dite, ℕ_discrete, LiveEvent, CloseQueue, Log, Begins, closed_of, begins_trans, closed_stays, Closes, IsAfter}
 
 module _ (qsbr : Bool) (allows : Log → LiveEvent → Type 0) (seen heard : Log) (q : ℕ) (log : Log) (c : Closes qsbr allows seen heard q log) where
   pub heard_goes_on : Begins heard log

@@ -1,33 +1,5 @@
 -- What a worker keeps, and what it has run.
-use base.Stored.{Gv}
-use Rattle.std.proofs.Common.{Bool, true, false, ◌≡◌, ◌≢◌, ℕ, zero, suc, ◌+◌, ◌<◌, ◌≤◌, List, [], ◌∷◌, ◌++◌, length, reverse, append_assoc, sym, refl, ap, ◌∙◌, subst, arith, inl, inr, ⊎_elim, ◌==◌}
-use mathlib.Core.Option.{some, some-injective}
-use Rattle.std.proofs.lemmas.Bool.Decides.{eqb_tells}
-use lib.ListN.{get_elem?, length-append}
-use Rattle.std.proofs.lemmas.List.{reverse-append}
-use Rattle.atomic_table.proofs.Lists.{at_longer}
-use Rattle.atomic_table.specs.Table.{Me}
-use Rattle.atomic_table.specs.declared.shared.Seat.{Seat}
-use Rattle.rcu_model.specs.declared.event.ObjectId.{ObjectId}
-use Rattle.rcu_model.specs.Sets.{In}
-use Rattle.callback_queue.specs.declared.item.Item.{Item}
-use Rattle.callback_queue.specs.declared.item.Ripe.{Ripe}
-use Rattle.call_rcu_worker.specs.declared.finished.Finished.{Finished}
-use Rattle.live_log.specs.declared.event.LiveEvent.{LiveEvent}
-use Rattle.live_log.specs.declared.event.LiveEvent.TheVariants.{Close}
-use Rattle.live_log.specs.Log.{Log, Begins, HaveEnded, HaveRun, IsLiveRun, line_of, state_of}
-use Rattle.live_log.proofs.Lemmas.{begins_trans, grows_log, has_since, line_grows}
-use Rattle.live_words.specs.live_rule.declared.view.Look.{Look}
-use Rattle.live_words.specs.live_rule.declared.view.Look.TheVariants.{Loaded, Stored}
-use Rattle.live_words.specs.live_rule.declared.view.View.{View}
-use Rattle.live_words.specs.live_rule.Places.{closed_at, finished_at, queued_at, work_at}
-use Rattle.live_words.specs.live_rule.Steps.{Wrote}
-use Rattle.live_words.specs.live_rule.Views.{bare}
-use Rattle.live_words.specs.live_rule.declared.view.Sizes.{Sizes}
-use Rattle.live_words.specs.live_table.Steps.{IsKnown, Keeps, Went, looked_view}
-use Rattle.live_words.specs.live_queues.Queues.{IsAt}
-use Rattle.live_items.specs.Items.{CountsQueued, InOrder, IsPlaced, JobValue}
-use Rattle.live_reclaim.specs.Batches.{AreRunAs, IsRunAs, Lists}
+use Rattle.domain.proofs.Cited.{Gv, Bool, true, false, ◌≡◌, ◌≢◌, ℕ, zero, suc, ◌+◌, ◌<◌, ◌≤◌, List, [], ◌∷◌, ◌++◌, length, reverse, append_assoc, sym, refl, ap, ◌∙◌, subst, arith, inl, inr, ⊎_elim, ◌==◌, some, some-injective, eqb_tells, get_elem?, length-append, reverse-append, at_longer, Me, Seat, ObjectId, In, Item, Ripe, Finished, LiveEvent, Close, Log, Begins, HaveEnded, HaveRun, IsLiveRun, line_of, state_of, begins_trans, grows_log, has_since, line_grows, Look, Loaded, Stored, View, closed_at, finished_at, queued_at, work_at, Wrote, bare, Sizes, IsKnown, Keeps, Went, looked_view, IsAt, CountsQueued, InOrder, IsPlaced, JobValue, AreRunAs, IsRunAs, Lists}
 pub use Rattle.live_reclaim.proofs.Lemmas.{all_and, all_later, due_later}
 use Rattle.domain.specs.declared.worker_end.Stop.{Stop}
 use Rattle.domain.specs.declared.working.Outcome.{Outcome}

@@ -1,11 +1,5 @@
 -- What a program sees by a seat that was told what it has seen.
-use Rattle.std.proofs.Common.{Bool, ◌≡◌, ℕ, List, ◌∷◌, ◌++◌, append-nil, ap, ◌∙◌, subst}
-use Rattle.live_log.specs.declared.event.LiveEvent.{LiveEvent}
-use Rattle.live_log.specs.Log.{Log, Begins}
-use Rattle.live_words.specs.live_rule.declared.view.Sizes.{Sizes}
-use Rattle.live_words.specs.live_rule.declared.view.View.{View}
-use Rattle.live_words.specs.live_rule.Views.{bare}
-use Rattle.live_status.specs.Status.{Looks, Stalls}
+use Rattle.domain.proofs.Cited.{Bool, ◌≡◌, ℕ, List, ◌∷◌, ◌++◌, append-nil, ap, ◌∙◌, subst, LiveEvent, Log, Begins, Sizes, View, bare, Looks, Stalls}
 
 -- the caller takes in what the seat found
 pub stalls_for : (qsbr : Bool) (allows : Log → LiveEvent → Type 0) (key sizes : Sizes) (seen heard : Log) (v : View) (earlier loaded loads : List Log) (before looked looks : Looks) (slots : List ℕ) (log : Log)

@@ -64,8 +64,8 @@ LooksOfBatch key q finished last old new = new ≡ Loaded (finished_at key q) fi
 abbrev pub LooksOfNone : Sizes → (q : ℕ) (old new : Looks) → Type 0
 LooksOfNone key q old new = (n : ℕ) × (new ≡ Loaded (queued_at key q) n ∷ old)
 
--- What a worker looked at that went from the first number to the last, and left so many: a batch that it ran or left, or
--- none.
+-- What a worker looked at that went from the first number to the last, and left this many: a batch that it ran or left,
+-- or none.
 abbrev pub IsRound : Sizes → (q first last many : ℕ) → Outcome → (old new : Looks) → Type 0
 IsRound key q first last many Ran old new = LooksOfBatch key q first last old new × (first ≤ last)
 IsRound key q first last many Nothing old new = LooksOfNone key q old new × (last ≡ first)
@@ -78,7 +78,7 @@ OnlyLoads [] = Unit {0}
 OnlyLoads (Loaded a n ∷ ls) = OnlyLoads ls
 OnlyLoads (Stored a n ∷ ls) = ⊥
 
--- by these looks no batch was of more than so many
+-- by these looks no batch was of more than this many
 abbrev pub TookNoMore : Sizes → (q most : ℕ) → Looks → Type 0
 TookNoMore key q most [] = Unit {0}
 TookNoMore key q most (l ∷ ls) = ((f n : ℕ) (rest : Looks) → l ≡ Loaded (finished_at key q) f → ls ≡ Loaded (queued_at key q) n ∷ rest → n ≤ most) × TookNoMore key q most ls
@@ -91,7 +91,7 @@ TookUpTo key q n looks = (since rest : Looks) × (f : ℕ) × (looks ≡ since +
 abbrev pub RanBatches : Sizes → (q first last : ℕ) → Looks → Type 0
 RanBatches key q first last looks = (last ≡ first) ⊎ TookUpTo key q last looks
 
--- what a worker looked at that ran batches from the first number to the last, and took no more than so many
+-- what a worker looked at that ran batches from the first number to the last, and took no more than this many
 pub record Rounds (key : Sizes) (q first last most : ℕ) (old new : Looks) : Type 0 where
   pub found : Looks
   pub looks : new ≡ found ++ old
@@ -99,11 +99,11 @@ pub record Rounds (key : Sizes) (q first last most : ℕ) (old new : Looks) : Ty
   pub ran : RanBatches key q first last found
   pub took : TookNoMore key q most found
 
--- more were queued than so many
+-- more were queued than this many
 abbrev pub HasMore : ℕ → ℕ → Log → Type 0
 HasMore q n log = n < length (line_of log q)
 
--- So many are left, at least one: all that had been queued in a log in which the entries had run, but for these.
+-- This many are left, at least one: all that had been queued in a log in which the entries had run, but for these.
 pub record IsWhole {D : Type 0} (code : D → Gv) (answers : D → Ripe → ℕ → Type 0) (q : ℕ) (start log : Log) (first last : ℕ) (entries : List Finished) (many : ℕ) : Type 0 where
   pub taken : Log
   pub after : Begins start taken
@@ -113,12 +113,12 @@ pub record IsWhole {D : Type 0} (code : D → Gv) (answers : D → Ripe → ℕ 
   pub some : 0 < many
 
 module _ {D : Type 0} (code : D → Gv) (answers : D → Ripe → ℕ → Type 0) (qsbr : Bool) (allows : Log → LiveEvent → Type 0) (key : Sizes) (q : ℕ) where
-  -- A worker began after all that had been seen and heard of, when the first so many were finished, and ran those that
-  -- came next, each in its turn: the deleter that it was queued with was called, and answered the code of its entry.
-  -- Where it was closed, no more were queued; where it was served, no more had been when it began; and where memory was
-  -- refused, more were. It kept the work all that time, and ran whole batches. What it took it ran or left. What is left
-  -- comes next after the entries, and nothing is but where the numbers were used up. Then something is, and with the
-  -- entries it is all that had been queued in a log in which these had run.
+  -- A worker began after all that had been seen and heard of, when this many, the first ones, were finished, and ran
+  -- those that came next, each in its turn: the deleter that it was queued with was called, and answered the code of
+  -- its entry. Where it was closed, no more were queued; where it was served, no more had been when it began; and where
+  -- memory was refused, more were. It kept the work all that time, and ran whole batches. What it took it ran or left.
+  -- What is left comes next after the entries, and nothing is but where the numbers were used up. Then something is,
+  -- and with the entries it is all that had been queued in a log in which these had run.
   pub record HasWorked (seen heard : Log) (old new : Looks) (old_loads new_loads : List Log) (entries : List Finished) (items : List (Item (JobValue D))) (stop : Stop) (log : Log) : Type 0 where
     pub start : Log
     pub first : ℕ

@@ -17,8 +17,7 @@ use std::sync::Wait;
 
 impl<P: GracePlan + Drop, K: ChainRule, B: Site, D: Deleter> Domain<P, K, B, D> {
     /// Begins a barrier that nobody waits for: notes how many callbacks each queue was given, by the counts that it
-    /// loads, which `looks` tells. The mark keeps a log that begins with all that the caller had seen and heard of. It
-    /// never waits and takes no memory.
+    /// loads, which `looks` tells. The mark keeps a log that begins with all that the caller had seen and heard of.
     pub fn barrier_start<W: Caller<B>>(&self, caller: &mut W) -> BarrierMark
         ensures asked { IsMarked W.Caller B.sizes caller.old caller.new result.asked.value.me.0 }
         ensures given { WereGiven B.sizes result.counts (W.heard caller.new) }
@@ -36,8 +35,7 @@ impl<P: GracePlan + Drop, K: ChainRule, B: Site, D: Deleter> Domain<P, K, B, D> 
     /// by the finished counts that it loads, which `looks` tells.
     ///
     /// Then of each queue as many objects have their Run as the mark counted, whoever queued them. And all that was
-    /// queued in the mark's log has its Run, where the caller had seen that log or heard of it. It never waits and
-    /// takes no memory.
+    /// queued in the mark's log has its Run, where the caller had seen that log or heard of it.
     pub fn barrier_done<W: Caller<B>>(&self, caller: &mut W, mark: &BarrierMark) -> bool
         ensures exact { IsReachedBy W.Caller B.sizes caller.old caller.new mark.now.counts result }
         ensures run { IsTrue result → HaveRunAsCounted B.sizes mark.now.counts (W.heard caller.new) }
@@ -55,8 +53,7 @@ impl<P: GracePlan + Drop, K: ChainRule, B: Site, D: Deleter> Domain<P, K, B, D> 
     /// each queue was given, which `looks` tells. At the return as many objects of each queue have their Run in the log
     /// that the caller hears of, whoever queued them. So has each object that was queued in what the caller knew.
     ///
-    /// It waits for the workers of all queues, with a back-off, so it is not called in a section or a callback. It
-    /// takes no memory.
+    /// It waits for the workers of all queues, with a back-off, so it is not called in a section or a callback.
     pub fn barrier<W: Caller<B>, R: Wait>(&self, rt: &R, caller: &mut W)
         ensures barred { Barred W.Caller P.QSBR K.allows B.sizes caller.old caller.new }
         ensures same { Stays W.Caller caller.old caller.new × (W.loads caller.new ≡ W.loads caller.old) }

@@ -19,7 +19,7 @@ pub struct LiveConfig {
 impl LiveConfig {
     ghost use Rattle.domain.specs.Config.{is_supported};
 
-    /// Whether each number is within its limits. It never waits.
+    /// Whether each number is within its limits.
     pub fn is_supported(self) -> bool
         ensures { result ≡ is_supported self }
     {

@@ -41,7 +41,7 @@ impl<P: GracePlan + Drop, K: ChainRule, B: Site, D: Deleter> Domain<P, K, B, D> 
     /// may be moved into any thread. `Reader::unregister` gives its slot back.
     ///
     /// Refused with `NoSlot` only where the bit of every slot was found set: `looks` tells the words that it found. It
-    /// takes no lock and no memory, and waits for nobody.
+    /// takes no lock, and waits for nobody.
     pub fn register<W: Caller<B>, R: Wait>(
         &self,
         rt: &R,
@@ -58,7 +58,7 @@ impl<P: GracePlan + Drop, K: ChainRule, B: Site, D: Deleter> Domain<P, K, B, D> 
         Reader::register(rt, &self.table, caller)
     }
 
-    /// A handle that has seen and heard as much as the caller, for another thread. It never waits.
+    /// A handle that has seen and heard as much as the caller, for another thread.
     pub fn split<W: Caller<B>>(&self, caller: &mut W) -> Handle<B>
         ensures told { (result.seat.me.0.seen ≡ W.seen caller.old) × (result.seat.me.0.heard ≡ W.heard caller.old) }
         ensures same { IsAsBefore W.Caller caller.old caller.new }
@@ -66,8 +66,7 @@ impl<P: GracePlan + Drop, K: ChainRule, B: Site, D: Deleter> Domain<P, K, B, D> 
         Handle::split(&self.table, caller)
     }
 
-    /// The one caller hears what the other has seen and heard of, beside all that it had seen and heard of itself. It
-    /// never waits.
+    /// The one caller hears what the other has seen and heard of, beside all that it had seen and heard of itself.
     pub fn inform<S: Caller<B>, T: Caller<B>>(&self, from: &mut S, to: &mut T)
         ensures told { Begins (S.seen from.old) (T.heard to.new) × Begins (S.heard from.old) (T.heard to.new) }
         ensures kept { IsAfter P.QSBR K.allows (T.seen to.old) (T.heard to.old) (T.heard to.new) }
@@ -109,8 +108,7 @@ impl<P: GracePlan + Drop, K: ChainRule, B: Site, D: Deleter> Domain<P, K, B, D> 
     /// Asks for a grace period that nobody waits for, liburcu's `start_poll_synchronize_rcu`. The cookie keeps the log
     /// at its load, which was after all that the caller had seen and heard of.
     ///
-    /// Refused with `Exhausted` exactly where the sequence number that it loads is at or above 2^62. It never waits and
-    /// takes no memory.
+    /// Refused with `Exhausted` exactly where the sequence number that it loads is at or above 2^62.
     pub fn start_poll<W: Caller<B>>(&self, caller: &mut W) -> Result<LiveCookie, Refusal>
         ensures loaded { LoadedOnce P.QSBR K.allows (W.seen caller.old) (W.heard caller.old) (W.loads caller.old) (W.loads caller.new) (W.heard caller.new) }
         ensures cookie { IfOk result (λ c. (c.asked.value.me.0.seen ≡ W.heard caller.new) × (cookie_for (seq_of (W.heard caller.new)) ≡ Ok c.cookie)) }
@@ -127,7 +125,7 @@ impl<P: GracePlan + Drop, K: ChainRule, B: Site, D: Deleter> Domain<P, K, B, D> 
     /// Whether a grace period has passed since the cookie was taken, liburcu's `poll_state_synchronize_rcu`: true
     /// exactly where the sequence number that it loads is at or above the cookie. Then each section that was open in
     /// the cookie's log has ended, where the caller had seen that log or heard of it. So it has for a caller who hears
-    /// of that log later. It never waits and takes no memory.
+    /// of that log later.
     pub fn poll<W: Caller<B>>(&self, caller: &mut W, cookie: &LiveCookie) -> bool
         ensures loaded { LoadedOnce P.QSBR K.allows (W.seen caller.old) (W.heard caller.old) (W.loads caller.old) (W.loads caller.new) (W.heard caller.new) }
         ensures exact { IsTrue result ↔ (cookie.now.cookie ≤ seq_of (W.heard caller.new)) }

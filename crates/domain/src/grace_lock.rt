@@ -21,7 +21,7 @@ pub(crate) struct GraceLock<P: GracePlan, B: Site> {
 }
 
 impl<P: GracePlan + Drop, B: Site> GraceLock<P, B> {
-    /// Of a seat with the right to the words of grace periods of a new table. It never waits.
+    /// Of a seat with the right to the words of grace periods of a new table.
     pub(crate) fn new(seat: LiveSeat) -> GraceLock<P, B>
         requires { (seat.table_id ≡ B.table) × (seat.me.0.grace ≡ Rests 0 0) × (seat.me.1 ≡ []) }
     {

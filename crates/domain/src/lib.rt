@@ -1,6 +1,8 @@
 #![tactic(auto)]
 //! A domain of the library over live threads: readers are registered, records and chains are written, what was cut is
-//! retired and reclaimed by workers, and grace periods are waited for and polled. Its locks are here alone.
+//! retired and reclaimed by workers, and grace periods are waited for and polled. Its locks are here alone. Here and in
+//! the crates below, a call waits only where it takes a runtime `rt`. It takes memory only where it can be refused with
+//! `Memory`.
 
 mod barring;
 mod config;

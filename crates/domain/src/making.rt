@@ -21,7 +21,7 @@ impl<P: GracePlan + Drop, K: ChainRule> Opened<P, K> {
     /// domain alone: a program is generic in it, and picks it in one line of a proof (`Names`, docs/USING.md). `D` is
     /// what is called with each object that is reclaimed: the boxed `Callback`, or a type of the program's own.
     ///
-    /// Refused with `Memory` where memory is. It never waits.
+    /// Refused with `Memory` where memory is.
     pub fn into_domain<B: Site, D: Deleter>(
         self,
         alloc: Global,

@@ -24,7 +24,7 @@ impl<P: GracePlan + Drop, K: ChainRule> Opened<P, K> {
     /// The words of a domain of this size.
     ///
     /// Refused with `BadConfig` exactly where a number is out of its limits, else with `Memory` where memory is
-    /// refused. It never waits.
+    /// refused.
     pub fn new(alloc: Global, config: LiveConfig) -> Result<Opened<P, K>, Refusal>
         ensures ok { IfOk result (λ o. IsOf config o.table.slots o.table.queues o.table.chains o.table.pool) }
         ensures err { IfErr result (λ e. e ≡ new_refusal config) }

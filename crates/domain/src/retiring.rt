@@ -145,8 +145,8 @@ impl<P: GracePlan + Drop, K: ChainRule, B: Site, D: Deleter> Domain<P, K, B, D> 
         }
     }
 
-    /// Closes all queues: every later retirement is refused. Workers still run what is queued, as tests show. The caller
-    /// hears of that. It takes no memory, and waits for the queues' locks alone.
+    /// Closes all queues: every later retirement is refused. Workers still run what is queued, as tests show. The
+    /// caller hears of that. It waits for the queues' locks alone.
     pub fn close<W: Caller<B>, R: Wait>(&self, rt: &R, caller: &mut W)
         ensures closed { (q : ℕ) → q < B.sizes.queues → closed_of q (W.heard caller.new) ≡ 1 }
         ensures after { IsAfter P.QSBR K.allows (W.seen caller.old) (W.heard caller.old) (W.heard caller.new) }

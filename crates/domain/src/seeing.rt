@@ -17,7 +17,7 @@ use rcu_model::Refusal;
 use std::alloc::Global;
 
 impl<P: GracePlan + Drop, K: ChainRule, B: Site, D: Deleter> Domain<P, K, B, D> {
-    /// How many chains it has, numbered from 0: at most 4,096. It never waits.
+    /// How many chains it has, numbered from 0: at most 4,096.
     pub fn chains(&self) -> usize
         ensures many { result ≡ B.sizes.chains }
         ensures low { result ≤ 4096 }
@@ -27,7 +27,7 @@ impl<P: GracePlan + Drop, K: ChainRule, B: Site, D: Deleter> Domain<P, K, B, D> 
 
     /// How full the domain is: how many records are in use, how many retired objects of each queue have not run, and
     /// the sequence number. The counts are loaded one after another, so they are of different moments of the call. It
-    /// takes as long as the pool is large; it never waits and takes no memory.
+    /// takes as long as the pool is large.
     pub fn counts<W: Caller<B>>(&self, caller: &mut W) -> Counts
         ensures counted { (found : Looks) × (W.looks caller.new ≡ found ++ W.looks caller.old) × Counted B.sizes found result }
         ensures seq { LoadsSeq W.Caller P.QSBR K.allows caller.old caller.new × (seq_of (W.heard caller.new) ≡ result.seq) }
@@ -43,7 +43,7 @@ impl<P: GracePlan + Drop, K: ChainRule, B: Site, D: Deleter> Domain<P, K, B, D> 
     /// program's own log where `synchronize` takes long. Each was loaded at a moment of the call, at which its section
     /// was open; none does where no grace period runs.
     ///
-    /// Refused with `Memory` where the list's memory is refused; then nothing was loaded. It never waits.
+    /// Refused with `Memory` where the list's memory is refused; then nothing was loaded.
     pub fn stalled<W: Caller<B>>(
         &self,
         alloc: Global,

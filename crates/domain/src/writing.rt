@@ -34,8 +34,8 @@ impl<P: GracePlan + Drop, K: ChainRule, B: Site, D: Deleter> Domain<P, K, B, D> 
     /// tells the words that it found and stored: it draws one number, and takes one record.
     ///
     /// Refused with `PoolFull` only where it found the header of each record other than 0, or the last object number at
-    /// or above 2^62. A number is drawn before a record is looked for, so a refusal by a full pool uses one up. It takes
-    /// no memory, and waits for nobody, but tries again where other threads draw object numbers meanwhile.
+    /// or above 2^62. A number is drawn before a record is looked for, so a refusal by a full pool uses one up. It
+    /// waits for nobody, but tries again where other threads draw object numbers meanwhile.
     pub fn alloc<W: Caller<B>, R: Wait>(
         &self,
         rt: &R,
@@ -52,7 +52,7 @@ impl<P: GracePlan + Drop, K: ChainRule, B: Site, D: Deleter> Domain<P, K, B, D> 
     }
 
     /// Frees a record that no chain has linked. Its object's number is given to no other. The caller hears of what was
-    /// seen at the allocation; `looks` tells the store. It never waits and takes no memory.
+    /// seen at the allocation; `looks` tells the store.
     pub fn discard<W: Caller<B>>(&self, caller: &mut W, owned: Owned<B>)
         ensures freed { W.looks caller.new ≡ Stored (cell_at B.sizes (cell_in owned.seat.me.0.object) 0) 0 ∷ W.looks caller.old }
         ensures heard { IsAfter P.QSBR K.allows (W.seen caller.old) (W.heard caller.old) (W.heard caller.new) × Begins owned.seat.me.0.seen (W.heard caller.new) }
@@ -66,7 +66,7 @@ impl<P: GracePlan + Drop, K: ChainRule, B: Site, D: Deleter> Domain<P, K, B, D> 
     /// was seen at that.
     ///
     /// Refused with `NoPlace` exactly where there is no such chain, else with `Busy` exactly where its hold word was
-    /// found to be 1, which `looks` tells. It takes no memory and never waits.
+    /// found to be 1, which `looks` tells.
     pub fn chain<'d, W: Caller<B>>(
         &'d self,
         caller: &mut W,
@@ -83,7 +83,7 @@ impl<P: GracePlan + Drop, K: ChainRule, B: Site, D: Deleter> Domain<P, K, B, D> 
     }
 
     /// The object of a record that was cut, by a load of the record's header, which is kept among the looks of the
-    /// record's seat. It never waits.
+    /// record's seat.
     pub fn object(&self, unlinked: &mut Unlinked<B>) -> ObjectId
         ensures object { result ≡ object_in unlinked.old.seat.me.0.object }
         ensures chain { unlinked.new.chain ≡ unlinked.old.chain }

@@ -1,1 +1,2 @@
+mod Cited
 mod Published

@@ -1,9 +1,5 @@
 -- What is read of an object that was pushed.
-use Rattle.std.proofs.Common.{◌≡◌, ℕ, ◌≤◌, List, [], ◌∷◌, length, Option, Some, None, IfSome, IfNone, slice_get, refl, sym, ap, ◌∙◌, subst, inl, arith}
-use Rattle.rcu_model.specs.declared.event.ObjectId.{ObjectId}
-use Rattle.live_log.specs.declared.event.LiveEvent.{LiveEvent}
-use Rattle.live_log.specs.Log.{Log, Begins, Has, words_in}
-use Rattle.live_log.proofs.Lemmas.{has_later}
+use Rattle.domain_tests.proofs.Cited.{◌≡◌, ℕ, ◌≤◌, List, [], ◌∷◌, length, Option, Some, None, IfSome, IfNone, slice_get, refl, sym, ap, ◌∙◌, subst, inl, arith, ObjectId, LiveEvent, Log, Begins, Has, words_in, has_later}
 
 -- what an answer has is so
 pub some_so : {X : Type 0} (found : Option X) (x : X) (so : X → Type 0) → found ≡ Some x → IfSome found so → so x

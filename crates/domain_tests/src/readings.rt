@@ -35,7 +35,6 @@ fn publishes<P: GracePlan + Drop, B: Site, R: Wait>(
     chain: usize,
     words: [u64; 4],
 ) -> Result<(Option<[u64; 4]>, Option<[u64; 4]>), Refusal>
-    requires { 0 < section.old.reader.now.core.depth }
     ensures reader { section.new.reader.ghost_name ≡ section.old.reader.ghost_name }
     ensures counts { (section.new.reader.now.core.depth ≡ section.old.reader.now.core.depth) × (section.new.reader.now.core.locks ≡ section.old.reader.now.core.locks) }
     ensures writer { IfOk result (λ got. got.0 ≡ Some words) }
@@ -59,7 +58,6 @@ fn reads_across<P: GracePlan + Drop, B: Site>(
     section: &mut Section<P, AnyChain, B>,
     chain: usize,
 ) -> Result<Option<[u64; 4]>, Refusal>
-    requires { 0 < section.old.reader.now.core.depth }
     ensures reader { section.new.reader.ghost_name ≡ section.old.reader.ghost_name }
     ensures counts { (section.new.reader.now.core.depth ≡ section.old.reader.now.core.depth) × (section.new.reader.now.core.locks ≡ section.old.reader.now.core.locks) }
 {
@@ -79,7 +77,6 @@ fn reads_on<P: GracePlan, B: Site>(
     section: &mut Section<P, AnyChain, B>,
     chain: usize,
 ) -> Result<Option<([u64; 4], bool)>, Refusal>
-    requires { 0 < section.old.reader.now.core.depth }
     ensures reader { section.new.reader.ghost_name ≡ section.old.reader.ghost_name }
     ensures counts { (section.new.reader.now.core.depth ≡ section.old.reader.now.core.depth) × (section.new.reader.now.core.locks ≡ section.old.reader.now.core.locks) }
     ensures run { IfOk result (λ got. IfSome got (λ _. (s : SectionId) (m : Readings) → HasRead s m section.old.reader.now.core → (a b c : Log) × (o : ObjectId) × (found : Option ObjectId) × HasRead s (Read s (Next o found) ∷ later c (Read s (Touch o) ∷ later b (Read s (First chain (Some o)) ∷ later a m))) section.new.reader.now.core)) }

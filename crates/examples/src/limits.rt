@@ -1,32 +1,12 @@
 //! Limits that one thread replaces while others read them: none finds mixed ones, or older ones after newer.
 
-use rcu::{AnyChain, Domain, Handle, Memb, NoCallback, Reader, Refusal, Site, Slot, Threaded};
+use crate::newest::Newest;
+use rcu::{AnyChain, Domain, Handle, Memb, NoCallback, Refusal, Site, Slot, Threaded, with_reader};
 use std::alloc::Global;
 use std::sync::Wait;
 
 /// The last lower limit.
-const LAST: u64 = 200;
-
-/// Reads a lower limit, and an upper one, which is one more, until they are the last ones. Answers the lower one, or 0
-/// where they were mixed or too old.
-fn newest<B: Site>(
-    limits: &Slot<'_, Memb, B, NoCallback, (u64, u64)>,
-    reader: &mut Reader<Memb, AnyChain, B>,
-) -> Result<u64, Refusal> {
-    let mut newest = 0;
-    for _ in 0..1_000_000_000u64 {
-        let mut section = reader.section()?;
-        let (lower, upper) = limits.read(&mut section);
-        if upper.wrapping_sub(lower) != 1 || lower < newest {
-            return Ok(0);
-        }
-        if lower == LAST {
-            return Ok(LAST);
-        }
-        newest = lower;
-    }
-    Ok(newest)
-}
+pub(crate) const LAST: u64 = 200;
 
 /// Thread 0 replaces the limits, and the others read them.
 pub(crate) struct Server;
@@ -47,10 +27,10 @@ impl<R: Wait> Threaded<Memb, AnyChain, NoCallback, R> for Server {
         mut own: Handle<B>,
         number: usize,
     ) -> Result<u64, Refusal> {
-        let limits = Slot::new(domain, 0, (0, 1))?;
         if number != 0 {
-            return newest(&limits, &mut domain.register(rt, &mut own)?);
+            return with_reader(rt, domain, &mut own, &Newest)?;
         }
+        let limits = Slot::new(domain, 0, (0, 1))?;
         for lower in 1..LAST + 1 {
             let replaced = limits.replace(rt, &mut own, (lower, lower + 1), NoCallback);
             replaced.map_err(|refused| refused.0)?;

@@ -6,6 +6,7 @@ mod event_loop;
 mod found;
 mod leases;
 mod limits;
+mod newest;
 mod polling;
 mod routes;
 mod shutdown;

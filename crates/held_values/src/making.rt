@@ -25,9 +25,9 @@ pub struct Domain<P: GracePlan, K: ChainRule> {
     pub ghost sized: { seat.me.0.sizes ≡ (arc_value table).words.shared.key },
 }
 
-/// A new domain with so many slots, and its grace periods.
+/// A new domain with this many slots, and its grace periods.
 ///
-/// Refused with `Memory` where memory is. It never waits.
+/// Refused with `Memory` where memory is.
 pub fn new_domain<P: GracePlan + Drop, K: ChainRule>(
     alloc: Global,
     slots: usize,
@@ -58,7 +58,7 @@ impl<P: GracePlan, K: ChainRule> Domain<P, K> {
     /// A reader in the first slot that is found free, by a new seat. It is offline in the quiescent-state flavour.
     ///
     /// Refused with `NoSlot` only where the bit of every slot was found set: the words among the seat's looks tell. And
-    /// with `Memory` where the table has too many owners, more than a word can count. It takes no memory and never waits.
+    /// with `Memory` where the table has too many owners, more than a word can count.
     pub fn register(&mut self) -> Result<ReaderCore<P, K>, Refusal>
         ensures table { IfOk result (λ r. r.seat.table_id ≡ (arc_value self.old.table).words.shared.table_id) }
         ensures slot { IfOk result (λ r. (r.slot < (arc_value self.old.table).slots) × TakesOne r.slot r.seat.me.0.looks) }

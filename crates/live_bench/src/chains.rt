@@ -1,6 +1,6 @@
 //! What is repeated on chains.
 
-ghost use Rattle.std.specs.Prelude.{◌<◌};
+ghost use Rattle.std.specs.Prelude.{◌≡◌, ◌<◌};
 ghost use Rattle.rcu_hash.specs.domain.Naming.{Names};
 ghost use Rattle.rcu_hash.specs.live_read.Holding.{MayHoldIn};
 
@@ -17,7 +17,7 @@ use std::sync::atomic::{AtomicU64, Ordering};
 use std::sync::{Mutex, Wait};
 use std::thread::Threads;
 
-/// One operation of so many is an update, where reads and updates are mixed.
+/// One operation of this many is an update, where reads and updates are mixed.
 const UPDATE_EVERY: u64 = 100;
 
 /// What the threads of a measurement share.
@@ -36,7 +36,9 @@ struct Measured<'d, 'a, P: GracePlan, B: Site> {
 
 /// One section with nothing in it.
 #[inline(always)]
-fn section<P: GracePlan, B: Site>(reader: &mut Reader<P, AnyChain, B>) -> bool {
+fn section<P: GracePlan, B: Site>(reader: &mut Reader<P, AnyChain, B>) -> bool
+    ensures { (reader.new.core.depth ≡ reader.old.core.depth) × (reader.new.core.locks ≡ reader.old.core.locks) }
+{
     match reader.section() {
         Ok(_section) => true,
         Err(_) => false,
@@ -44,7 +46,9 @@ fn section<P: GracePlan, B: Site>(reader: &mut Reader<P, AnyChain, B>) -> bool {
 }
 
 /// Sections one after the other. Answers how many.
-fn sections<P: GracePlan, B: Site>(reader: &mut Reader<P, AnyChain, B>, count: u64) -> u64 {
+fn sections<P: GracePlan, B: Site>(reader: &mut Reader<P, AnyChain, B>, count: u64) -> u64
+    ensures { (reader.new.core.depth ≡ reader.old.core.depth) × (reader.new.core.locks ≡ reader.old.core.locks) }
+{
     let mut done = 0;
     for number in 0..count {
         if section(reader) {
@@ -101,7 +105,6 @@ fn read_again<P: GracePlan, B: Site>(
     held: Held,
     count: u64,
 ) -> u64
-    requires open_section { 0 < section.old.reader.now.core.depth }
     requires held { MayHoldIn section.old.reader.now.core held.cell }
 {
     let mut sum = 0;
@@ -112,13 +115,11 @@ fn read_again<P: GracePlan, B: Site>(
     sum
 }
 
-/// A walk along a chain, over and over, until it has met so many records. It looks at none of their words.
+/// A walk along a chain, over and over, until it has met this many records. It looks at none of their words.
 fn walk_on<P: GracePlan, B: Site>(
     section: &mut Section<P, AnyChain, B>,
     count: u64,
-) -> Result<u64, Refusal>
-    requires { 0 < section.old.reader.now.core.depth }
-{
+) -> Result<u64, Refusal> {
     let mut at = section.first(0)?;
     let mut walks = 0;
     for _ in 0..count {
@@ -383,7 +384,7 @@ fn part<P: GracePlan + Drop, B: Site, R: Wait>(
     done
 }
 
-/// Repeats an operation by so many threads. What the last one answers.
+/// Repeats an operation by this many threads. What the last one answers.
 pub(crate) fn on_chains<
     P: GracePlan + Drop + Send + Sync,
     B: Site + Send + Sync,
@@ -464,7 +465,7 @@ fn retiring_part<P: GracePlan + Drop, B: Site, D: Deleter, R: Wait, F: Fn() -> O
     done
 }
 
-/// Retires so many records with a boxed callback each, beside a worker.
+/// Retires this many records with a boxed callback each, beside a worker.
 pub(crate) fn boxed<
     P: GracePlan + Drop + Send + Sync,
     B: Site + Send + Sync,

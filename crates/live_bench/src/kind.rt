@@ -30,7 +30,7 @@ pub(crate) enum OnChains {
     Push,
     /// The same, cut at once.
     Cut,
-    /// A record allocated and discarded, while so many of 100 are in use.
+    /// A record allocated and discarded, while this many of 100 are in use.
     Alloc(u64),
     /// A record allocated and put in the place of the first one of a chain, which is retired, while nobody reclaims.
     Queue,
@@ -175,7 +175,7 @@ impl OnChains {
     }
 }
 
-/// A domain of so many chains.
+/// A domain of this many chains.
 pub(crate) fn of_chains(chains: usize) -> LiveConfig {
     LiveConfig {
         slots: 256,

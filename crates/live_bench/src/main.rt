@@ -1,7 +1,8 @@
 #![tactic(auto)]
-//! Operations of the library over live threads, one after the other, for the benchmark: `live_bench FLAVOUR KIND
-//! COUNT`. A kind that ends in `-by-two` or `-by-four` is of so many threads, each of which makes COUNT operations. Of
-//! `slowest-while-growing` the answer is the time of the slowest operation, in billionths of the time of all.
+//! Operations of the library over live threads, one after the other, for the benchmark:
+//! `live_bench FLAVOUR KIND COUNT`. A kind that ends in `-by-two` or `-by-four` is of this many threads, each of which
+//! makes COUNT operations. Of `slowest-while-growing` the answer is the time of the slowest operation, in billionths of
+//! the time of all.
 
 mod chains;
 mod kind;

@@ -108,7 +108,7 @@ fn slowest<P: GracePlan, B: Site>(
     Ok(longest.saturating_mul(1_000_000_000) / all.max(1))
 }
 
-/// Sections that go through the table, as many as it takes to meet so many entries. Answers how many they met.
+/// Sections that go through the table, as many as it takes to meet this many entries. Answers how many they met.
 fn walks_through<P: GracePlan, B: Site>(
     measured: &Measured<'_, '_, P, B>,
     reader: &mut Reader<P, Tabled, B>,
@@ -157,7 +157,7 @@ fn ticks(clock: &AtomicU64, done: &AtomicBool) -> u64 {
     u64::MAX
 }
 
-/// Gives so many keys a value each: the first key, and then each key that lies a step further.
+/// Gives this many keys a value each: the first key, and then each key that lies a step further.
 fn insertions<P: GracePlan + Drop, B: Site, R: Wait>(
     rt: &R,
     map: &Map<'_, P, B>,
@@ -173,7 +173,7 @@ fn insertions<P: GracePlan + Drop, B: Site, R: Wait>(
     Ok(count)
 }
 
-/// Gives a key a value and takes it out again, so many times, while nobody reclaims.
+/// Gives a key a value and takes it out again, this many times, while nobody reclaims.
 fn removals<P: GracePlan + Drop, B: Site, R: Wait>(
     rt: &R,
     map: &Map<'_, P, B>,
@@ -260,7 +260,7 @@ fn part<P: GracePlan + Drop, B: Site, R: Wait>(
     done
 }
 
-/// Repeats an operation by so many threads, on a table that has its keys. What the last one answers.
+/// Repeats an operation by this many threads, on a table that has its keys. What the last one answers.
 pub(crate) fn on_table<
     P: GracePlan + Drop + Send + Sync,
     B: Site + Send + Sync,

@@ -1,13 +1,5 @@
 -- How an ask is answered.
-use Rattle.std.proofs.Common.{Bool, true, false, ◌≡◌, ℕ, ◌<◌, ◌≤◌, [], ◌∷◌, sym, refl, subst, true≢false, ⊎_elim}
-use Rattle.live_log.specs.declared.event.LiveEvent.{LiveEvent}
-use Rattle.live_log.specs.declared.event.LiveEvent.TheVariants.{Close, SeqEven, SeqOdd}
-use Rattle.live_log.specs.Log.{Log, Begins, Has, HaveEnded, IsBound, IsLiveRun, seq_of}
-use Rattle.live_log.proofs.Lemmas.{begins_trans, ended_before, has_later, is_past, run_of}
-use Rattle.live_words.specs.live_rule.declared.view.View.{View}
-use Rattle.live_words.specs.live_rule.Steps.{Precedes, Wrote}
-use Rattle.live_words.specs.live_periods.Periods.{at_load}
-use Rattle.live_words.specs.live_table.Rights.{before_in}
+use Rattle.live_grace.proofs.Cited.{Bool, true, false, ◌≡◌, ℕ, ◌<◌, ◌≤◌, [], ◌∷◌, sym, refl, subst, true≢false, ⊎_elim, LiveEvent, Close, SeqEven, SeqOdd, Log, Begins, Has, HaveEnded, IsBound, IsLiveRun, seq_of, begins_trans, ended_before, has_later, is_past, run_of, View, Precedes, Wrote, at_load, before_in}
 use Rattle.live_grace.specs.Answers.{IsCookieOf, WholeGracePeriod}
 use Rattle.live_grace.specs.Steps.{IsAnswered, IsUnderWay, Knows}
 

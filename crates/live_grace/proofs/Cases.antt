@@ -1,20 +1,7 @@
 -- What each turn of the loop keeps.
-use Rattle.std.proofs.Common.{◌≡◌, ℕ, ◌+◌, ◌≤◌, ◌^◌, List, [], ◌∷◌, ◌++◌, Bool, true, false, sym, refl, ap, ◌∙◌, subst, inl, arith, true≢false}
-use Rattle.std.specs.Coded.{le_prop, ×_prop}
-use Rattle.atomic_table.specs.Table.{Me}
-use Rattle.gp_memb.specs.declared.plan.Action.{Action}
-use Rattle.gp_memb.specs.declared.plan.Action.TheVariants.{Load, LoadGroup, StorePhase, StoreSeq, Finished}
-use Rattle.gp_memb.specs.Plan.{StoresInOrder, IsPresent, present_after}
-use Rattle.live_log.specs.declared.event.LiveEvent.{LiveEvent}
-use Rattle.live_log.specs.Log.{Log, MayBePresent}
-use Rattle.live_words.specs.live_rule.declared.view.View.{View}
-use Rattle.live_words.specs.live_rule.declared.rights.GraceRight.TheVariants.{Works}
-use Rattle.live_words.specs.live_rule.Places.{group_at, slot_at}
-use Rattle.live_words.specs.live_table.Rights.{looks_in, before_in, seq_in, present_in}
-use Rattle.live_log.specs.declared.event.LiveEvent.TheVariants.{Present, SeqOdd}
+use Rattle.live_grace.proofs.Cited.{◌≡◌, ℕ, ◌+◌, ◌≤◌, ◌^◌, List, [], ◌∷◌, ◌++◌, Bool, true, false, sym, refl, ap, ◌∙◌, subst, inl, arith, true≢false, le_prop, ×_prop, Me, Action, Load, LoadGroup, StorePhase, StoreSeq, Finished, StoresInOrder, IsPresent, present_after, LiveEvent, Log, MayBePresent, View, Works, group_at, slot_at, looks_in, before_in, seq_in, present_in, Present, SeqOdd, IsBound}
 use Rattle.live_grace.specs.Answers.{Gained, stored_by, stores_of}
 use Rattle.live_grace.specs.Going.{Going, InLoop, IsLogged, Begun, WasTold}
-use Rattle.live_log.specs.Log.{IsBound}
 use Rattle.live_grace.proofs.Tellings.{told_load, told_store}
 
 -- the action loads the word at this place

@@ -1,11 +1,5 @@
 -- What the turns of a plan come to.
-use Rattle.std.proofs.Common.{◌≡◌, ℕ, ◌+◌, Bool, true, List, [], ◌∷◌, ◌++◌, sym, refl, ap, ◌∙◌, subst}
-use Rattle.std.proofs.lemmas.List.{length-append}
-use Rattle.gp_memb.specs.declared.plan.Action.{Action}
-use Rattle.gp_memb.specs.declared.plan.Action.TheVariants.{Load, LoadGroup, StorePhase, StoreSeq, Finished}
-use Rattle.gp_memb.specs.declared.plan.Turn.{Turn}
-use Rattle.gp_memb.specs.declared.plan.Turn.TheVariants.{Step, Wait}
-use Rattle.gp_memb.specs.lemmas.History.{after_snoc}
+use Rattle.live_grace.proofs.Cited.{◌≡◌, ℕ, ◌+◌, Bool, true, List, [], ◌∷◌, ◌++◌, sym, refl, ap, ◌∙◌, subst, length-append, Action, Load, LoadGroup, StorePhase, StoreSeq, Finished, Turn, Step, Wait, after_snoc}
 use Rattle.live_grace.specs.declared.period.Progress.TheVariants.{InTheWay}
 use Rattle.live_grace.specs.Going.{IsLogged}
 use Rattle.live_grace.specs.Steps.{Stands, TookTurns, Turned, progress_at}

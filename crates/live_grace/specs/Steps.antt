@@ -64,7 +64,7 @@ pub record Stands {P : Type 0} (action : P → Action) (turn : P → ℕ → Tur
   pub waits : turn plan word ≡ turned.Wait
   pub loaded : In (slot_at slot, word) looks
 
--- the plan took so many turns: on from the first plan if a grace period was going, and else from that of a new one
+-- the plan took this many turns: on from the first plan if a grace period was going, and else from that of a new one
 pub record TookTurns {P : Type 0} (taken : P → ℕ → P) (going : Bool) (plan : P) (count : ℕ) (after : P) : Type 0 where
   pub start : P
   pub from : going ≡ true → start ≡ plan

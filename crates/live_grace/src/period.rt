@@ -34,8 +34,7 @@ pub enum Progress {
     InTheWay(usize),
 }
 
-/// The first step of a grace period, by the seat that has the right to its words: the sequence number becomes odd. It
-/// never waits.
+/// The first step of a grace period, by the seat that has the right to its words: the sequence number becomes odd.
 #[inline(always)]
 pub(crate) fn begin<P: GracePlan + Drop, K: ChainRule>(
     table: &LiveTable<P, K>,
@@ -60,7 +59,7 @@ pub(crate) fn begin<P: GracePlan + Drop, K: ChainRule>(
 }
 
 /// A further step, which the plan names: a load, or a store of the phase or number, or the last store, by which the
-/// sequence number is even again. It never waits.
+/// sequence number is even again.
 #[inline(always)]
 pub(crate) fn turn<P: GracePlan + Drop, K: ChainRule>(
     table: &LiveTable<P, K>,

@@ -29,7 +29,7 @@ const GREATEST_BEGUN: u64 = 1 << 62;
 pub enum Step {
     /// The sequence number has reached the cookie.
     Done,
-    /// The grace period is over, or so many steps of it were taken: poll again, or take further steps.
+    /// The grace period is over, or this many steps of it were taken: poll again, or take further steps.
     Going,
     /// A section of this slot's reader stands in the way of the grace period that is going.
     InTheWay(usize),
@@ -54,7 +54,7 @@ pub struct GracePeriods<P: GracePlan, K: ChainRule> {
 impl<P: GracePlan + Drop, K: ChainRule> GracePeriods<P, K> {
     ghost use Rattle.live_grace.specs.declared.periods.Step.TheVariants.{Done, Exhausted as none_left, Going, InTheWay};
 
-    /// Of a new table, of the seat with the right to its words of grace periods, and of one for asks. It never waits.
+    /// Of a new table, of the seat with the right to its words of grace periods, and of one for asks.
     pub fn new(table: Arc<LiveTable<P, K>>, grace: LiveSeat, asks: LiveSeat) -> GracePeriods<P, K>
         requires tables { (grace.table_id ≡ (arc_value table).words.shared.table_id) × (asks.table_id ≡ (arc_value table).words.shared.table_id) }
         requires right { (grace.me.0.grace ≡ Rests 0 0) × (grace.me.1 ≡ []) }
@@ -67,7 +67,7 @@ impl<P: GracePlan + Drop, K: ChainRule> GracePeriods<P, K> {
 
     /// Asks for a grace period: loads the sequence number and takes its cookie.
     ///
-    /// Refused with `Exhausted` exactly where the loaded number is at or above 2^62. It never waits and takes no memory.
+    /// Refused with `Exhausted` exactly where the loaded number is at or above 2^62.
     pub fn ask(&mut self) -> Result<Cookie, Refusal>
         ensures looked { LoadedSeq P.QSBR K.allows self.old.asks.me self.new.asks.me }
         ensures later { Precedes self.old.asks.me.0 self.new.asks.me.0.seen × IsLiveRun P.QSBR K.allows self.new.asks.me.0.seen }
@@ -83,7 +83,7 @@ impl<P: GracePlan + Drop, K: ChainRule> GracePeriods<P, K> {
 
     /// Whether the ask of this cookie is answered: loads the sequence number, and is true exactly where that is at or
     /// above the cookie. Then each section has ended that was open in a log which was seen here, or heard of, and of
-    /// which this is the cookie. It never waits.
+    /// which this is the cookie.
     pub fn poll(&mut self, cookie: Cookie) -> bool
         ensures looked { LoadedSeq P.QSBR K.allows self.old.asks.me self.new.asks.me }
         ensures later { Precedes self.old.asks.me.0 self.new.asks.me.0.seen × IsLiveRun P.QSBR K.allows self.new.asks.me.0.seen }
@@ -96,7 +96,7 @@ impl<P: GracePlan + Drop, K: ChainRule> GracePeriods<P, K> {
     }
 
     /// Polls, and where the ask is not answered takes steps of the grace period that is going, or else of a new one:
-    /// until that is over, a section stands in its way, or so many steps were taken. It never waits.
+    /// until that is over, a section stands in its way, or this many steps were taken.
     ///
     /// `Done` says what a true poll says, and then no step was taken. `Exhausted`: none is going, and the sequence number
     /// is above 2^62, so that no other may begin.

@@ -55,7 +55,7 @@ pub enum Beginning {
 impl<P: GracePlan + Drop, K: ChainRule> GraceSteps<P, K> {
     ghost use Rattle.live_grace.specs.declared.steps.Beginning.TheVariants.{Going, Shared};
 
-    /// Of a seat with the right to the words of grace periods of a new table. It never waits.
+    /// Of a seat with the right to the words of grace periods of a new table.
     pub fn new(table: &LiveTable<P, K>, seat: LiveSeat) -> GraceSteps<P, K>
         requires { (seat.me.0.grace ≡ Rests 0 0) × (seat.me.1 ≡ []) }
         ensures words { (result.seat ≡ seat) × (result.seq ≡ 0) × (result.present ≡ 0) }
@@ -74,9 +74,9 @@ impl<P: GracePlan + Drop, K: ChainRule> GraceSteps<P, K> {
     }
 
     /// Sees to it that the ask of this cookie is answered, or that a grace period is going. Where none is going, it
-    /// loads the sequence number. `Shared`: that is at or above the cookie, so that each section has ended that was open
-    /// in a log which the seat knew, and of which this is the cookie. Else a grace period begins, after all that the
-    /// seat had seen and heard. It never waits.
+    /// loads the sequence number. `Shared`: that is at or above the cookie, so that each section has ended that was
+    /// open in a log which the seat knew, and of which this is the cookie. Else a grace period begins, after all that
+    /// the seat had seen and heard.
     pub fn begin(&mut self, table: &LiveTable<P, K>, cookie: Cookie) -> Beginning
         requires table { (self.old.seat.table_id ≡ table.now.words.shared.table_id) × (self.old.slots ≡ table.now.slots) }
         requires low { cookie ≤ 2 ^ 62 + 2 }
@@ -98,8 +98,8 @@ impl<P: GracePlan + Drop, K: ChainRule> GraceSteps<P, K> {
         Beginning::Going
     }
 
-    /// A grace period begins, after all that the seat had seen and heard, where none is going and the sequence number is
-    /// at most 2^62. It never waits.
+    /// A grace period begins, after all that the seat had seen and heard, where none is going and the sequence number
+    /// is at most 2^62.
     pub fn begin_now(&mut self, table: &LiveTable<P, K>)
         requires table { (self.old.seat.table_id ≡ table.now.words.shared.table_id) × (self.old.slots ≡ table.now.slots) }
         requires rests { (self.old.going ≡ false) × (self.old.seq ≤ 2 ^ 62) }
@@ -114,7 +114,7 @@ impl<P: GracePlan + Drop, K: ChainRule> GraceSteps<P, K> {
     }
 
     /// A further step of the grace period that is going. At the last one, each section has ended that was open in a log
-    /// after which the grace period began. It never waits.
+    /// after which the grace period began.
     pub fn step(&mut self, table: &LiveTable<P, K>) -> Progress
         requires table { (self.old.seat.table_id ≡ table.now.words.shared.table_id) × (self.old.slots ≡ table.now.slots) }
         requires going { self.old.going ≡ true }

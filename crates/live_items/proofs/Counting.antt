@@ -1,16 +1,5 @@
 -- What a worker's seat knows once it looked how many were queued.
-use Rattle.std.proofs.Common.{Bool, ◌≡◌, ℕ, ◌<◌, ◌≤◌, List, [], ◌∷◌, ◌++◌, length, sym, refl, ap, ◌∙◌, subst}
-use Rattle.atomic_table.specs.declared.shared.Seat.{Seat}
-use Rattle.callback_queue.specs.declared.item.Item.{Item}
-use Rattle.live_log.specs.declared.event.LiveEvent.{LiveEvent}
-use Rattle.live_log.specs.Log.{Log, Begins, line_of}
-use Rattle.live_log.proofs.Lemmas.{begins_trans}
-use Rattle.live_words.specs.live_rule.declared.view.Look.TheVariants.{Loaded}
-use Rattle.live_words.specs.live_rule.declared.view.Sizes.{Sizes}
-use Rattle.live_words.specs.live_rule.declared.view.View.{View}
-use Rattle.live_words.specs.live_rule.Places.{finished_at, queued_at}
-use Rattle.live_words.specs.live_rule.Seats.{heard_view}
-use Rattle.live_words.specs.live_table.Steps.{Joined, Keeps, Went, looked_view}
+use Rattle.live_items.proofs.Cited.{Bool, ◌≡◌, ℕ, ◌<◌, ◌≤◌, List, [], ◌∷◌, ◌++◌, length, sym, refl, ap, ◌∙◌, subst, Seat, Item, LiveEvent, Log, Begins, line_of, begins_trans, Loaded, Sizes, View, finished_at, queued_at, heard_view, Joined, Keeps, Went, looked_view}
 use Rattle.live_items.specs.Items.{CountsQueued, FindsMore, FindsNone, IsBatch, JobValue, TakesBatch}
 
 module _ {S : Type 0} (qsbr : Bool) (allows : Log → LiveEvent → Type 0) (key : Sizes) (q : ℕ) where

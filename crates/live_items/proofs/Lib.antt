@@ -1,3 +1,4 @@
+mod Cited
 pub mod Counting
 pub mod Orders
 pub mod Retirings

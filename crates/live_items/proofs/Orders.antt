@@ -1,17 +1,5 @@
 -- What stays of the order of a queue's items.
-use Rattle.std.proofs.Common.{◌≡◌, ℕ, ◌+◌, ◌≤◌, List, [], ◌∷◌, ◌++◌, length, sym, refl, ap, ◌∙◌, subst, arith, append_assoc, false}
-use lib.ListN.{length-append}
-use Rattle.rcu_model.specs.declared.event.ObjectId.{ObjectId}
-use Rattle.callback_queue.specs.declared.item.Item.{Item}
-use Rattle.callback_queue.specs.Queue.{items_of, given_of, pushed, closed_queue, with_place}
-use Rattle.live_log.specs.Log.{Log, Begins, WasQueued, line_of}
-use Rattle.live_log.proofs.Lemmas.{begins_trans, line_grows}
-use Rattle.live_words.specs.live_rule.declared.view.Sizes.{Sizes}
-use Rattle.live_words.specs.live_rule.declared.view.View.{View}
-use Rattle.live_words.specs.live_rule.declared.rights.QueueRight.TheVariants.{Owns}
-use Rattle.live_words.specs.live_rule.declared.rights.RecordRight.TheVariants.{Nothing}
-use Rattle.live_words.specs.live_table.Rights.{object_in}
-use Rattle.live_words.specs.live_queues.Queues.{IsAt, IsLast}
+use Rattle.live_items.proofs.Cited.{◌≡◌, ℕ, ◌+◌, ◌≤◌, List, [], ◌∷◌, ◌++◌, length, sym, refl, ap, ◌∙◌, subst, arith, append_assoc, false, length-append, ObjectId, Item, items_of, given_of, pushed, closed_queue, with_place, Log, Begins, WasQueued, line_of, begins_trans, line_grows, Sizes, View, Owns, Nothing, object_in, IsAt, IsLast}
 use Rattle.live_items.specs.Items.{JobValue, Jobs, IsBatch, IsPlaced, InOrder, IsUnderLock, word_of}
 
 in_order_later : {C : Type 0} (q : ℕ) (old new : Log) (n : ℕ) (items : List (Item (JobValue C))) → Begins old new → InOrder q old n items → InOrder q new n items
@@ -73,7 +61,8 @@ under_looked key jobs v w q under size queue object later = record {
   unsealed = under.unsealed;
 }
 
--- a batch: all the items under the lock, of which so many were finished before, in a later log with as many in its line
+-- a batch: all the items under the lock, of which this many were finished before, in a later log with as many in its
+-- line
 pub batch_of : {C : Type 0} (key : Sizes) (jobs : Jobs C) (v : View) (q : ℕ) (log : Log) (finished last : ℕ) → IsUnderLock key jobs v q → Begins v.seen log → finished + length jobs.fresh ≡ last → given_of jobs ≡ last → length (line_of log q) ≡ last → IsBatch q log finished last jobs.fresh
 batch_of {C} key jobs v q log finished last under later count given all =
     let items : items_of jobs ≡ jobs.fresh = ap (λ (l : List (Item (JobValue C))). l ++ jobs.waiting ++ jobs.fresh) under.unsealed.0 ∙ ap (λ (l : List (Item (JobValue C))). l ++ jobs.fresh) under.unsealed.1 in

@@ -1,9 +1,5 @@
 -- What is told of a retirement, in other words.
-use Rattle.std.proofs.Common.{Bool, ℕ}
-use base.Stored.{Gv}
-use Rattle.rcu_model.specs.declared.event.ObjectId.{ObjectId}
-use Rattle.live_log.specs.declared.event.LiveEvent.{LiveEvent}
-use Rattle.live_log.specs.Log.{Log}
+use Rattle.live_items.proofs.Cited.{Bool, ℕ, Gv, ObjectId, LiveEvent, Log}
 use Rattle.live_items.specs.Retiring.{Queues}
 
 pub queues_as : (qsbr : Bool) (allows : Log → LiveEvent → Type 0) (is is' : Log → Type 0) (o : ObjectId) (q n : ℕ) (code : Gv) (log : Log) → ((before : Log) → is before → is' before) → Queues qsbr allows is o q n code log → Queues qsbr allows is' o q n code log

@@ -1,13 +1,5 @@
 -- What loads tell, one after another.
-use Rattle.std.proofs.Common.{Bool, ◌≡◌, ℕ, List, sym, ap, ◌∙◌, slice_index_or}
-use Rattle.atomic_table.specs.Table.{Me}
-use Rattle.rcu_model.specs.declared.event.ObjectId.{ObjectId}
-use Rattle.rcu_model.specs.Sets.{In}
-use Rattle.live_log.specs.declared.event.LiveEvent.{LiveEvent}
-use Rattle.live_log.specs.Log.{Log, Begins, IsLiveRun, record_of, state_of}
-use Rattle.live_log.proofs.Lemmas.{begins_trans, note_stays}
-use Rattle.live_words.specs.live_rule.declared.view.View.{View}
-use Rattle.live_words.specs.live_table.Steps.{Went}
+use Rattle.live_items.proofs.Cited.{Bool, ◌≡◌, ℕ, List, sym, ap, ◌∙◌, slice_index_or, Me, ObjectId, In, LiveEvent, Log, Begins, IsLiveRun, record_of, state_of, begins_trans, note_stays, View, Went}
 
 pub went_on : {S : Type 0} (qsbr : Bool) (allows : Log → LiveEvent → Type 0) (m u w : Me S View) → Went qsbr allows m.0 m u → Went qsbr allows u.0 u w → Went qsbr allows m.0 m w
 went_on qsbr allows m u w x y = (

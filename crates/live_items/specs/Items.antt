@@ -28,7 +28,7 @@ JobValue C = View × ℕ × C × Gv
 abbrev pub Jobs : Type 0 → Type 0
 Jobs C = Queue (Item (JobValue C))
 
--- so many were queued before the item's object, which was queued with the callback of the job's code, and whoever has
+-- this many were queued before the item's object, which was queued with the callback of the job's code, and whoever has
 -- seen this log knows of it
 pub record IsPlaced {C : Type 0} (q : ℕ) (seen : Log) (n : ℕ) (item : Item (JobValue C)) : Type 0 where
   pub turn : IsAt q n item.object item.job.0.seen
@@ -49,8 +49,8 @@ IsPushed {C} old new o callback = (job : JobValue C) × (job.2 ≡ callback) × 
 abbrev pub GetsNoPlace : {C : Type 0} → Jobs C → Refusal → Type 0
 GetsNoPlace jobs e = ((e ≡ Closed) × (jobs.closed ≡ true)) ⊎ ((e ≡ Memory) × (jobs.closed ≡ false) × ((jobs.reserved ≡ false) ⊎ (2 ^ 63 ≤ given_of jobs)))
 
--- A worker's batch: what comes next after so many that are finished, up to this number. It is all that was queued in the
--- log.
+-- A worker's batch: what comes next after this many that are finished, up to this number. It is all that was queued in
+-- the log.
 pub record IsBatch {C : Type 0} (q : ℕ) (log : Log) (finished last : ℕ) (items : List (Item (JobValue C))) : Type 0 where
   pub placed : InOrder q log finished items
   pub count : finished + length items ≡ last
@@ -85,7 +85,7 @@ abbrev pub IsTakenOut : {C : Type 0} → Jobs C → Jobs C → List (Item (JobVa
 IsTakenOut old new items = (items ≡ old.fresh) × (new ≡ taken_out (sealed old))
 
 -- A list of this length and room has no place for an entry of each item, or a batch of this room none for the items. Or
--- the items are not all that was queued in the log but for the first so many.
+-- the items are not all that was queued in the log but for this many, the first ones.
 abbrev pub HasNoBatch : {C : Type 0} → Jobs C → ℕ → ℕ → Log → ℕ × ℕ → ℕ → Type 0
 HasNoBatch jobs q finished log list room = (list.1 < list.0 + length jobs.fresh) ⊎ (room < length jobs.fresh) ⊎ (jobs.gone ≢ finished) ⊎ (given_of jobs ≢ length (line_of log q))
 

@@ -17,8 +17,8 @@ use Rattle.live_words.specs.live_table.Steps.{Keeps}
 use Rattle.live_words.specs.live_queues.Queues.{IsLast}
 use Rattle.live_read.specs.declared.caller.Caller.{Ghosts}
 
--- the object was retired at a log of which the first holds, and then it was queued, after so many, with the callback of
--- this code
+-- the object was retired at a log of which the first holds, and then it was queued, after this many, with the callback
+-- of this code
 pub record Queues (qsbr : Bool) (allows : Log → LiveEvent → Type 0) (at_retire : Log → Type 0) (o : ObjectId) (queue given : ℕ) (callback : Gv) (log : Log) : Type 0 where
   pub before : Log
   pub at : at_retire before
@@ -42,7 +42,7 @@ QueuesFor w qsbr allows old new cut queue given callback = Queues qsbr allows (I
 abbrev pub AreOfTable : {S : Type 0} → TableId → ℕ → ℕ → Seat S View → Seat S View → ℕ → ℕ → Type 0
 AreOfTable id queues pool lock unlinked queue cell = (lock.table_id ≡ id) × (unlinked.table_id ≡ id) × (unlinked.me.1 ≡ []) × (queue < queues) × (cell < pool)
 
--- the seat has the right to the queue, which is open, and to which so many were given
+-- the seat has the right to the queue, which is open, and to which this many were given
 abbrev pub HasQueue : View → ℕ → ℕ → Type 0
 HasQueue v queue given = IsInQueue v × (queue_in v.queue ≡ queue) × (closed_in v.queue ≡ 0) × (queued_in v.queue ≡ given) × (given + 1 < 2 ^ 64)
 

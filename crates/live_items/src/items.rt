@@ -61,7 +61,7 @@ impl<B: Site, C: Drop> Items<B, C> {
         }
     }
 
-    /// Which queue it is. It never waits.
+    /// Which queue it is.
     pub fn number(&self) -> usize
         ensures { result ≡ self.now.2 }
     {
@@ -149,8 +149,8 @@ impl<B: Site, C: Drop> Items<B, C> {
     /// Where it takes something, the worker then loads how many are finished: its looks tell each batch. The other list
     /// gets room for an entry for each.
     ///
-    /// Refused with `Memory` where room is refused, or where the items are not those that come next after so many that
-    /// are finished; then they are as they were. It waits for nobody.
+    /// Refused with `Memory` where room is refused, or where the items are not those that come next after this many
+    /// that are finished; then they are as they were. It waits for nobody.
     pub fn take_batch<P: GracePlan, K: ChainRule, T: Drop>(
         &mut self,
         table: &LiveTable<P, K>,
@@ -196,7 +196,7 @@ impl<B: Site, C: Drop> Items<B, C> {
     }
 
     /// Closes the queue: every later `retire` is refused, and what is queued stays. The caller hears of it. It waits
-    /// for nobody and takes no memory.
+    /// for nobody.
     pub fn close<P: GracePlan, K: ChainRule, W: Caller<B>>(
         &mut self,
         table: &LiveTable<P, K>,

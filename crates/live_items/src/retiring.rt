@@ -12,7 +12,7 @@ use live_words::{
 
 /// Retires the object of a seat and queues it, under the queue's lock: the header's store, and then that of the queued
 /// count, which is `given` before. The log notes which callback it is. Answers the seat with the right to run it, and
-/// its number. It never waits.
+/// its number.
 pub fn queue_object<P: GracePlan, K: ChainRule>(
     table: &LiveTable<P, K>,
     lock: &mut LiveSeat,

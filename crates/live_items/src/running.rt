@@ -14,7 +14,7 @@ use live_read::Site;
 use live_words::{ChainRule, LiveSeat, LiveTable, load_payload, store_run};
 use rcu_model::ObjectId;
 
-/// The four words of a seat's object, which was cut and has not been run. It never waits.
+/// The four words of a seat's object, which was cut and has not been run.
 fn load_words<P: GracePlan, K: ChainRule>(
     table: &LiveTable<P, K>,
     seat: &mut LiveSeat,
@@ -35,8 +35,8 @@ fn load_words<P: GracePlan, K: ChainRule>(
 
 impl<B: Site, C: Drop> Job<B, C> {
     /// Runs the job's object, which the worker knows to be ripe: loads its four words, and then frees its record. The
-    /// worker's seat hears of that. Then the job's own callback may be called, which comes back with the words; it is the
-    /// one that was queued, by its code. It never waits and takes no memory.
+    /// worker's seat hears of that. Then the job's own callback may be called, which comes back with the words; it is
+    /// the one that was queued, by its code.
     pub fn run<P: GracePlan, K: ChainRule>(
         self,
         table: &LiveTable<P, K>,

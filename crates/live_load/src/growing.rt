@@ -33,7 +33,7 @@ fn grow<P: GracePlan + Drop, B: Site, R: Wait>(
     table.grow(rt, alloc, record, buckets.first, buckets.number)
 }
 
-/// The table is tidied of so many records that a growth left. How many were retired.
+/// The table is tidied of this many records that a growth left. How many were retired.
 fn tidy<P: GracePlan + Drop, B: Site, R: Wait>(
     rt: &R,
     alloc: Global,

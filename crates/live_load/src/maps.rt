@@ -167,9 +167,7 @@ pub fn look<P: GracePlan, B: Site>(
     section: &mut Section<'_, P, Tabled, B>,
     view: &View<B>,
     key: u64,
-) -> Option<u64>
-    requires { 0 < section.old.reader.now.core.depth }
-{
+) -> Option<u64> {
     match view {
         View::List(list) => list.get(section, key),
         View::Table(table) => table.get(section, key),
@@ -182,7 +180,6 @@ pub fn walk<P: GracePlan, B: Site, F: FnMut(u64, u64)>(
     view: &View<B>,
     visit: &mut F,
 )
-    requires open_section { 0 < section.old.reader.now.core.depth }
     requires callable { F.IsAlwaysCallable visit.old }
 {
     match view {

@@ -12,10 +12,10 @@ use std::sync::Wait;
 use std::thread;
 use std::time::Clock;
 
-/// Whoever watches hears once in so many rounds.
+/// Whoever watches hears once in this many rounds.
 const BETWEEN: u32 = 16_384;
 
-/// After so many tries in a row with no free record an updater ends.
+/// After this many tries in a row with no free record an updater ends.
 const MOST_TRIES: u32 = 1_000_000;
 
 /// What an updater did.
@@ -29,7 +29,7 @@ pub(crate) struct Updated {
 
 /// What this answers as soon as a record is free.
 ///
-/// Refused as that is, with `PoolFull` after so many tries.
+/// Refused as that is, with `PoolFull` after this many tries.
 pub fn when_free<T: Drop, F: FnMut() -> Result<T, Refusal>>(mut attempt: F) -> Result<T, Refusal>
     requires { F.IsAlwaysCallable attempt }
 {

@@ -33,7 +33,7 @@ impl Mark {
     }
 }
 
-/// The numbers of so many readers, which have begun no section.
+/// The numbers of this many readers, which have begun no section.
 pub(crate) fn marks(alloc: Global, readers: u32) -> Result<Vec<Mark>, Refusal> {
     let mut marks = Vec::new(alloc);
     for _ in 0..readers {
@@ -48,7 +48,7 @@ pub(crate) fn marks(alloc: Global, readers: u32) -> Result<Vec<Mark>, Refusal> {
     Ok(marks)
 }
 
-/// Whether one of so many polls was answered.
+/// Whether one of this many polls was answered.
 fn is_answered<P: GracePlan + Drop, K: ChainRule, B: Site>(
     domain: &Domain<P, K, B, RoundDone>,
     record: &mut Handle<B>,

@@ -2,7 +2,7 @@
 
 /// Who hears how far a run is.
 pub trait Watch {
-    /// The first updater has done so many rounds. It is called in that updater's thread, once in 16,384 rounds.
+    /// The first updater has done this many rounds. It is called in that updater's thread, once in 16,384 rounds.
     fn hear(&self, rounds: u32);
 }
 

@@ -1,21 +1,7 @@
 -- What the steps on a reader's word tell of its section.
 use Rattle.gp_memb.specs.declared.plan.GracePlan as plan
-use Rattle.std.proofs.Common.{◌≡◌, ◌≢◌, ℕ, zero, suc, ◌+◌, ◌-◌, Bool, true, false, [], Ok, sym, refl, ap, ◌∙◌, subst, arith, true≢false}
-use mathlib.Core.Option.{Option, none, some}
-use native.Mathlib.Numerals.{unary_clauses}
-use Rattle.atomic_table.specs.Table.{Me}
-use Rattle.reader_word.specs.declared.layout.Layout.TheVariants.{Wide}
-use Rattle.reader_word.specs.Word.{count_of, entered_of, left_of}
-use Rattle.reader_word.proofs.Lemmas.{entered_of-nests, entered_of-opens, left_of-nests}
-use Rattle.live_log.specs.declared.event.LiveEvent.{LiveEvent}
-use Rattle.rcu_model.proofs.Lemmas.{has_section_in}
-use Rattle.live_log.specs.Log.{Log, IsOpenSection, open_of, sections_of, state_of}
-use Rattle.live_log.proofs.Lemmas.{is_open, open_inside}
-use Rattle.live_log.specs.declared.callback_id.CallbackId.{CallbackId}
-use Rattle.live_words.specs.live_rule.declared.view.View.{View}
-use Rattle.live_words.specs.live_rule.Readers.{Fits, IsClosed}
-use Rattle.live_words.specs.live_table.Rights.{count_in}
-use Rattle.live_words.specs.live_readers.Sections.{Announced, Closed, CopiedBefore, Nested, Opened, Stored, announces, opens}
+use Rattle.live_read.proofs.Cited.{◌≡◌, ◌≢◌, ℕ, zero, suc, ◌+◌, ◌-◌, Bool, true, false, [], Ok, sym, refl, ap, ◌∙◌, subst, arith, true≢false, Option, none, some, unary_clauses, Me, Wide, count_of, entered_of, left_of, entered_of-nests, entered_of-opens, left_of-nests, LiveEvent, has_section_in, Log, IsOpenSection, open_of, sections_of, state_of, is_open, open_inside, CallbackId, View, Fits, IsClosed, count_in, Announced, Closed, CopiedBefore, Nested, Opened, announces, opens}
+use Rattle.live_words.specs.live_readers.Sections.{Stored}
 use Rattle.live_read.specs.declared.reader_core.ReaderCore.{ReaderCore}
 use Rattle.live_read.specs.Holding.{KeepsHeld, log_of, ordinal, section_of}
 use Rattle.live_read.specs.Sections.{IsIn, Enters, Leaves, GoesOnline, Announces}

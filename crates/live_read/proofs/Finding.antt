@@ -1,24 +1,7 @@
 -- What a load tells a reader in a section.
 use Rattle.gp_memb.specs.declared.plan.GracePlan as plan
-use Rattle.std.proofs.Common.{◌≡◌, ℕ, ◌-◌, ◌<◌, Bool, true, false, Option, Some, None, sym, refl, ap, ◌∙◌, subst, inl, arith}
-use mathlib.Core.Option.{some}
-use Rattle.rcu_model.specs.declared.event.ObjectId.{ObjectId}
-use Rattle.rcu_model.specs.declared.event.SectionId.{SectionId}
-use Rattle.rcu_model.specs.Machine.{IsOpen}
-use Rattle.rcu_model.specs.Sets.{first_of}
-use Rattle.rcu_model.proofs.Lemmas.{in_sections}
-use Rattle.reader_word.specs.declared.layout.Layout.TheVariants.{Wide}
-use Rattle.reader_word.specs.Word.{count_of}
-use Rattle.live_log.specs.declared.event.LiveEvent.{LiveEvent}
-use Rattle.live_log.specs.Log.{Log, Begins, WasLinked, Objects, Follows, open_of, section, state_of, record_of, objects_of}
-use Rattle.live_log.proofs.Lemmas.{begins_trans, first_linked, inside_open, is_open}
-use Rattle.live_words.specs.live_rule.declared.view.Sizes.{Sizes}
-use Rattle.live_words.specs.live_rule.declared.view.View.{View}
-use Rattle.live_words.specs.live_rule.Objects.{ref}
-use Rattle.live_words.specs.live_rule.Readers.{IsClosed}
-use Rattle.live_words.specs.live_table.Rights.{count_in}
-use Rattle.live_words.specs.live_table.Steps.{IsNow, IsLater}
-use Rattle.live_words.specs.live_chains.Chains.{IsInSection, IsNext, MayRead}
+use Rattle.live_read.proofs.Cited.{◌≡◌, ℕ, ◌-◌, ◌<◌, Bool, true, false, Some, None, sym, refl, ap, ◌∙◌, subst, inl, arith, some, ObjectId, SectionId, IsOpen, first_of, in_sections, Wide, count_of, LiveEvent, Log, Begins, WasLinked, Objects, Follows, open_of, section, state_of, record_of, objects_of, begins_trans, first_linked, inside_open, is_open, Sizes, View, ref, IsClosed, count_in, IsNow, IsLater, IsInSection, IsNext, MayRead}
+use Rattle.std.proofs.Common.{Option}
 use Rattle.live_read.specs.declared.reader_core.ReaderCore.{ReaderCore}
 use Rattle.live_read.specs.Holding.{MayHold, MayHoldIn, log_of, ordinal, section_of}
 use Rattle.live_read.specs.Reads.{FindsFirst, FindsNext, Looks}

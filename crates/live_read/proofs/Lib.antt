@@ -1,3 +1,4 @@
+mod Cited
 mod Entering
 mod Finding
 mod Leaving

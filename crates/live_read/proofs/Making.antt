@@ -1,7 +1,5 @@
 -- What a caller knows after one call and another, where a change of a chain was made for it in one of them.
-use Rattle.std.proofs.Common.{ℕ, ◌+◌, [], ◌∷◌, ◌++◌, ◌∙◌, ap, sym, refl, append_assoc, arith}
-use Rattle.std.proofs.lemmas.List.{length-append}
-use Rattle.live_log.specs.Log.{Log}
+use Rattle.live_read.proofs.Cited.{ℕ, ◌+◌, [], ◌∷◌, ◌++◌, ◌∙◌, ap, sym, refl, append_assoc, arith, length-append, Log}
 use Rattle.live_read.specs.Hearing.{MakesLast, MakesMany, OnlyHears, OnlyMakesLast, OnlyMakesMany, Stays}
 use Rattle.live_read.specs.declared.caller.Caller.{Ghosts}
 

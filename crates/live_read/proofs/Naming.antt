@@ -1,8 +1,6 @@
 -- A reader with the name of its table is told by its core.
 use Rattle.gp_memb.specs.declared.plan.GracePlan as plan
-use Rattle.std.proofs.Common.{◌≡◌}
-use Rattle.std.proofs.Props.{props}
-use mathlib.Core.HLevel.{is_prop→PathP}
+use Rattle.live_read.proofs.Cited.{◌≡◌, props, is_prop→PathP}
 use Rattle.live_read.specs.declared.reader.Reader.{Reader}
 use Rattle.live_read.specs.declared.reader_core.ReaderCore.{ReaderCore}
 use Rattle.live_read.specs.declared.site.Site.{Ghosts}

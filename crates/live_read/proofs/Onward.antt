@@ -1,14 +1,6 @@
 -- The readings of a section, reading by reading.
 use Rattle.gp_memb.specs.declared.plan.GracePlan as plan
-use Rattle.std.proofs.Common.{◌++◌, append-nil, ◌≡◌, Bool, [], refl, sym, ap, ◌∙◌, subst}
-use Rattle.rcu_model.specs.declared.event.ObjectId.{ObjectId}
-use Rattle.rcu_model.specs.declared.event.SectionId.{SectionId}
-use Rattle.rcu_model.specs.Machine.{IsOpen}
-use Rattle.live_log.specs.declared.event.LiveEvent.{LiveEvent}
-use Rattle.live_log.specs.Log.{Log, Begins, IsLiveRun, section, state_of}
-use Rattle.live_fit.specs.declared.Reading.{Reading}
-use Rattle.live_fit.proofs.Lemmas.{log_more}
-use Rattle.live_fit.specs.Fit.{AreFitted, FitIn, HoldsIn, IsSoIn, Readings, ReadsOn, StartsHeld, StaysOpen, later, log_in}
+use Rattle.live_read.proofs.Cited.{◌++◌, append-nil, ◌≡◌, Bool, [], refl, sym, ap, ◌∙◌, subst, ObjectId, SectionId, IsOpen, LiveEvent, Log, Begins, IsLiveRun, section, state_of, Reading, log_more, AreFitted, FitIn, HoldsIn, IsSoIn, Readings, ReadsOn, StartsHeld, StaysOpen, later, log_in}
 use Rattle.live_read.specs.declared.reader_core.ReaderCore.{ReaderCore}
 use Rattle.live_read.specs.Holding.{log_of, section_of}
 use Rattle.live_read.specs.Readings.{HasRead, HasReadMore, HasReadNoMore}

@@ -1,24 +1,5 @@
 -- Steps of a search for a free slot, one after the other.
-use Rattle.std.proofs.Common.{Bool, ◌≡◌, ℕ, ◌+◌, ◌/◌, ◌%◌, ◌<◌, List, [], ◌∷◌, ◌++◌, true, false, MatchBool, not, sym, refl, ap, ◌∙◌, subst, inr, arith, append_assoc}
-use mathlib.Core.Logic.{dite}
-use mathlib.Core.Option.{Option, none, some}
-use native.Mathlib.Decide.{ℕ_discrete}
-use Rattle.atomic_table.specs.Table.{Me}
-use Rattle.gp_memb.specs.Plan.{bit_of}
-use Rattle.rcu_model.proofs.Lemmas.{in_left}
-use Rattle.live_log.specs.declared.event.LiveEvent.{LiveEvent}
-use Rattle.live_log.specs.Log.{Log, open_of, sections_of}
-use Rattle.live_log.proofs.Lemmas.{begins_trans}
-use Rattle.live_words.specs.live_rule.declared.view.Look.{Look}
-use Rattle.live_words.specs.live_rule.declared.view.Look.TheVariants.{Loaded}
-use Rattle.live_words.specs.live_rule.declared.view.View.{View}
-use Rattle.live_words.specs.live_rule.declared.rights.SlotRight.{SlotRight}
-use Rattle.live_words.specs.live_rule.declared.rights.SlotRight.TheVariants.{Owns}
-use Rattle.live_words.specs.live_rule.Places.{group_at}
-use Rattle.live_words.specs.live_rule.Readers.{IsClosed, Fits}
-use Rattle.live_words.specs.live_table.Rights.{count_in, word_in}
-use Rattle.live_words.specs.live_table.Steps.{Went, looked_view, stores_in}
-use Rattle.live_words.proofs.live_table.Lemmas.{found_left, found_right, stores_then}
+use Rattle.live_read.proofs.Cited.{Bool, ◌≡◌, ℕ, ◌+◌, ◌/◌, ◌%◌, ◌<◌, List, [], ◌∷◌, ◌++◌, true, false, MatchBool, not, sym, refl, ap, ◌∙◌, subst, inr, arith, append_assoc, dite, Option, none, some, ℕ_discrete, Me, bit_of, in_left, LiveEvent, Log, open_of, sections_of, begins_trans, Look, Loaded, View, SlotRight, Owns, group_at, IsClosed, Fits, count_in, word_in, Went, looked_view, stores_in, found_left, found_right, stores_then}
 use Rattle.live_read.specs.Registering.{Finds, Misses, Sought, TakesOne, WasClaimed}
 
 -- a closed word fits no open section

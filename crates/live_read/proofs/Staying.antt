@@ -1,14 +1,6 @@
 -- What a reader keeps of its section while it hears of something, nests or looks.
 use Rattle.gp_memb.specs.declared.plan.GracePlan as plan
-use Rattle.std.proofs.Common.{◌≡◌, ℕ, ◌<◌, Bool, List, sym, ap, ◌∙◌, subst}
-use mathlib.Core.Option.{some}
-use Rattle.rcu_model.specs.declared.event.ObjectId.{ObjectId}
-use Rattle.rcu_model.specs.declared.event.SectionId.{SectionId}
-use Rattle.rcu_model.specs.Machine.{IsOpen}
-use Rattle.live_log.specs.declared.event.LiveEvent.{LiveEvent}
-use Rattle.live_log.specs.Log.{Log, Begins, IsLiveRun, IsOpenSection, WasLinked, record_of, open_of, section, state_of}
-use Rattle.live_log.proofs.Lemmas.{note_stays, run_of, was_later, was_used}
-use Rattle.live_words.specs.live_rule.declared.view.Sizes.{Sizes}
+use Rattle.live_read.proofs.Cited.{◌≡◌, ℕ, ◌<◌, Bool, List, sym, ap, ◌∙◌, subst, some, ObjectId, SectionId, IsOpen, LiveEvent, Log, Begins, IsLiveRun, IsOpenSection, WasLinked, record_of, open_of, section, state_of, note_stays, run_of, was_later, was_used, Sizes}
 use Rattle.live_read.specs.declared.reader.Reader.{Reader}
 use Rattle.live_read.specs.declared.site.Site.{Ghosts}
 use Rattle.live_read.specs.declared.reader_core.ReaderCore.{ReaderCore}

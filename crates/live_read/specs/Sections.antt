@@ -76,7 +76,7 @@ module _ {P K : Type 0} {g : plan.Ghosts P} where
 
     -- a section does, which is not a lock
     abbrev pub ClosesSection : Type 0
-    ClosesSection = r.locks < r.depth → EndsSection r.locks
+    ClosesSection = EndsSection r.locks
 
     -- an offline reader goes online, which opens a section of the log
     pub record GoesOnline : Type 0 where

@@ -40,7 +40,7 @@ pub trait Caller<B: Site> {
     /// Of a reader, that its section of the log is open in what it has seen. It says nothing of a handle.
     ghost is_in: { Self → Type 0 };
 
-    /// A seat that has seen and heard as much, and has no right and has found nothing. It never waits.
+    /// A seat that has seen and heard as much, and has no right and has found nothing.
     fn tell<P: GracePlan, K: ChainRule>(&mut self, table: &LiveTable<P, K>) -> LiveSeat
         requires { table.now.words.shared.table_id ≡ B.table }
         ensures seat { (result.table_id ≡ B.table) × (result.me ≡ (bare B.sizes (seen self.old) (heard self.old), [])) }
@@ -48,7 +48,7 @@ pub trait Caller<B: Site> {
         ensures inside { is_in self.old → is_in self.new };
 
     /// It hears what the seat has seen, in the place of what it had heard of, and takes in the seat's loads and looks.
-    /// The seat is spent. It never waits.
+    /// The seat is spent.
     fn learn<P: GracePlan, K: ChainRule>(&mut self, table: &LiveTable<P, K>, other: LiveSeat)
         requires table { (table.now.words.shared.table_id ≡ B.table) × (other.table_id ≡ B.table) × (other.me.1 ≡ []) }
         ensures heard { heard self.new ≡ other.me.0.seen }
@@ -56,7 +56,7 @@ pub trait Caller<B: Site> {
         ensures same { (seen self.new ≡ seen self.old) × (standing self.new ≡ standing self.old) × (changes self.new ≡ changes self.old) }
         ensures inside { is_in self.old → is_in self.new };
 
-    /// As `learn`, and the changes that the seat knows were made for it. It never waits.
+    /// As `learn`, and the changes that the seat knows were made for it.
     fn learn_changes<P: GracePlan, K: ChainRule>(
         &mut self,
         table: &LiveTable<P, K>,
@@ -80,7 +80,7 @@ pub struct Handle<B: Site> {
 impl<B: Site> Handle<B> {
     ghost use Rattle.live_read.specs.Hearing.{IsAsBefore};
 
-    /// A handle that has seen what the seat has. It never waits.
+    /// A handle that has seen what the seat has.
     pub fn new(seat: LiveSeat) -> Handle<B>
         requires { (seat.table_id ≡ B.table) × (seat.me.0.sizes ≡ B.sizes) × (seat.me.1 ≡ []) }
         ensures { result.seat ≡ seat }
@@ -91,7 +91,7 @@ impl<B: Site> Handle<B> {
         }
     }
 
-    /// A handle that has seen and heard as much as the caller, for another thread. It never waits.
+    /// A handle that has seen and heard as much as the caller, for another thread.
     pub fn split<W: Caller<B>, P: GracePlan, K: ChainRule>(
         table: &LiveTable<P, K>,
         caller: &mut W,

@@ -33,7 +33,7 @@ fn claim_if_free<P: GracePlan, K: ChainRule>(
     !has_bit(claim(table, seat, slot), slot % 64)
 }
 
-/// Claims the first slot that it finds free, or finds that each is claimed. It never waits.
+/// Claims the first slot that it finds free, or finds that each is claimed.
 pub(crate) fn claim_any<P: GracePlan, K: ChainRule>(
     table: &LiveTable<P, K>,
     seat: &mut LiveSeat,

@@ -34,7 +34,7 @@ impl<P: GracePlan, K: ChainRule, B: Site> Reader<P, K, B> {
     ghost use Rattle.live_read.specs.contracts.reader.Reader.{the_row};
     ghost use Rattle.live_read.specs.Holding.{MayHoldIn};
     ghost use Rattle.live_read.specs.Reads.{FindsFirst, HasWord, HasWords, HoldsFirst, HoldsLast, HoldsNext, Looks};
-    ghost use Rattle.live_read.specs.Sections.{Announces, BeginsSection, EndsSection, GoesOffline, GoesOnline, CannotOpen, MayNotAnnounce, MayNotBegin, MayNotGoOnline};
+    ghost use Rattle.live_read.specs.Sections.{Announces, BeginsSection, ClosesSection, EndsSection, GoesOffline, GoesOnline, CannotOpen, MayNotAnnounce, MayNotBegin, MayNotGoOnline};
 
     /// This reader, with the name of its table.
     pub(crate) fn of(core: ReaderCore<P, K>) -> Reader<P, K, B>
@@ -77,7 +77,7 @@ impl<P: GracePlan, K: ChainRule, B: Site> Reader<P, K, B> {
         self.core.is_inside()
     }
 
-    // One more section or lock, with so many locks of the standard's face. It never waits.
+    // One more section or lock, with this many locks of the standard's face.
     fn enter(&mut self, locks: u64) -> Result<(), Refusal>
         requires { locks ≤ self.old.core.depth + 1 }
         ensures ok { IfOk result (λ _. BeginsSection P.QSBR K.allows self.old.core self.new.core locks) }
@@ -87,13 +87,23 @@ impl<P: GracePlan, K: ChainRule, B: Site> Reader<P, K, B> {
         self.core.enter(locks)
     }
 
+    // A section's end. It never waits.
+    pub(crate) fn leave(&mut self)
+        requires { self.old.core.locks < self.old.core.depth }
+        ensures { ClosesSection P.QSBR K.allows self.old.core self.new.core }
+    {
+        let locks = self.core.locks;
+        self.core.leave(locks)
+    }
+
     /// A read-side section, which is an inner one where the reader is in one, as by liburcu's `rcu_read_lock`. In the
     /// quiescent-state flavour it is a count, and no step of the table. What the outer one may hold it may hold in the
     /// inner one, and after its end.
     ///
     /// Refused with `NestFull` exactly at the greatest depth, 2,147,483,647, and with `NotOpen` where the reader is of
-    /// the quiescent-state flavour and offline; then the reader is as it was. It never waits.
+    /// the quiescent-state flavour and offline; then the reader is as it was.
     pub fn section(&mut self) -> Result<Section<'_, P, K, B>, Refusal>
+        // An assertion, and no fact as in `lock`: the result may hold the reader, which then has no value at the return.
         ensures* refused { sem 𝓛 (RestsIfErr (the_row P.row K.row B.row P.GracePlan B.Site K.ChainRule) self.entry (λ s. s.reader.ghost_name) result (λ last. last ≡ self.old)) }
         ensures same { IfOk result (λ s. s.reader.ghost_name ≡ self.entry.ghost_name) }
         ensures inside { IfOk result (λ s. BeginsSection P.QSBR K.allows self.old.core s.reader.now.core self.old.core.locks) }
@@ -105,7 +115,7 @@ impl<P: GracePlan, K: ChainRule, B: Site> Reader<P, K, B> {
 
     /// A lock of the standard's face, [saferecl.rcu.domain.members]: as a section, but that `unlock` ends it.
     ///
-    /// Refused as `section`, and then the reader is as it was. It never waits.
+    /// Refused as `section`, and then the reader is as it was.
     pub fn lock(&mut self) -> Result<(), Refusal>
         ensures ok { IfOk result (λ _. BeginsSection P.QSBR K.allows self.old.core self.new.core (self.old.core.locks + 1)) }
         ensures same { IfErr result (λ _. self.new ≡ self.old) }
@@ -114,7 +124,7 @@ impl<P: GracePlan, K: ChainRule, B: Site> Reader<P, K, B> {
         self.core.lock()
     }
 
-    /// Whether `lock` succeeds; if so it is locked, and else the reader is as it was. It never waits.
+    /// Whether `lock` succeeds; if so it is locked, and else the reader is as it was.
     pub fn try_lock(&mut self) -> bool
         ensures { MatchBool result (BeginsSection P.QSBR K.allows self.old.core self.new.core (self.old.core.locks + 1)) ((self.new ≡ self.old) × CannotOpen P.QSBR self.old.core) }
     {
@@ -123,7 +133,7 @@ impl<P: GracePlan, K: ChainRule, B: Site> Reader<P, K, B> {
 
     /// Undoes a `lock`. A section is ended by dropping it, and never by this.
     ///
-    /// Refused with `NotOpen` exactly where no lock is open, and then the reader is as it was. It never waits.
+    /// Refused with `NotOpen` exactly where no lock is open, and then the reader is as it was.
     pub fn unlock(&mut self) -> Result<(), Refusal>
         ensures ok { IfOk result (λ _. (0 < self.old.core.locks) × EndsSection P.QSBR K.allows self.old.core self.new.core (self.old.core.locks - 1)) }
         ensures same { IfErr result (λ _. self.new ≡ self.old) }
@@ -135,7 +145,7 @@ impl<P: GracePlan, K: ChainRule, B: Site> Reader<P, K, B> {
     /// An offline reader goes online, liburcu's `rcu_thread_online`, which opens a section of the log.
     ///
     /// Refused with `WrongFlavour` in the general-purpose flavour, else with `Busy` exactly where the reader is online;
-    /// then it is as it was. It never waits.
+    /// then it is as it was.
     pub fn online(&mut self) -> Result<(), Refusal>
         ensures ok { IfOk result (λ _. GoesOnline P.QSBR K.allows self.old.core self.new.core) }
         ensures same { IfErr result (λ _. self.new ≡ self.old) }
@@ -148,7 +158,7 @@ impl<P: GracePlan, K: ChainRule, B: Site> Reader<P, K, B> {
     /// and the next one opens.
     ///
     /// Refused with `WrongFlavour` in the general-purpose flavour, else with `NotOpen` exactly where the reader is
-    /// offline, else with `Busy` exactly while a lock or a section is open; then it is as it was. It never waits.
+    /// offline, else with `Busy` exactly while a lock or a section is open; then it is as it was.
     pub fn quiescent(&mut self) -> Result<(), Refusal>
         ensures ok { IfOk result (λ _. Announces P.QSBR K.allows self.old.core self.new.core) }
         ensures same { IfErr result (λ _. self.new ≡ self.old) }
@@ -159,7 +169,7 @@ impl<P: GracePlan, K: ChainRule, B: Site> Reader<P, K, B> {
 
     /// An online reader goes offline, liburcu's `rcu_thread_offline`, which closes its section of the log.
     ///
-    /// Refused as `quiescent`, and then the reader is as it was. It never waits.
+    /// Refused as `quiescent`, and then the reader is as it was.
     pub fn offline(&mut self) -> Result<(), Refusal>
         ensures ok { IfOk result (λ _. GoesOffline P.QSBR K.allows self.old.core self.new.core) }
         ensures same { IfErr result (λ _. self.new ≡ self.old) }
@@ -170,8 +180,7 @@ impl<P: GracePlan, K: ChainRule, B: Site> Reader<P, K, B> {
 
     /// The first object of a chain, which the reader holds from then on, in the lock or section that is open.
     ///
-    /// Refused with `NoPlace` exactly where there is no such chain, and then the reader is as it was. It never waits
-    /// and takes no memory.
+    /// Refused with `NoPlace` exactly where there is no such chain, and then the reader is as it was.
     pub fn first(&mut self, chain: usize) -> Result<Option<Held>, Refusal>
         requires { 0 < self.old.core.depth }
         ensures refused { IfErr result (λ e. (e ≡ NoPlace) × (B.sizes.chains ≤ chain) × (self.new ≡ self.old)) }
@@ -183,7 +192,7 @@ impl<P: GracePlan, K: ChainRule, B: Site> Reader<P, K, B> {
         self.core.first(chain)
     }
 
-    /// What follows an object that the reader holds, and is held from then on too. It never waits and takes no memory.
+    /// What follows an object that the reader holds, and is held from then on too.
     pub fn next(&mut self, held: Held) -> Option<Held>
         requires open_section { 0 < self.old.core.depth }
         requires held { MayHoldIn self.old.core held.cell }
@@ -196,7 +205,7 @@ impl<P: GracePlan, K: ChainRule, B: Site> Reader<P, K, B> {
         self.core.next(held)
     }
 
-    /// One of the four words of an object that the reader holds. It never waits and takes no memory.
+    /// One of the four words of an object that the reader holds.
     pub fn read_word(&mut self, held: Held, index: usize) -> u64
         requires open_section { (0 < self.old.core.depth) × (index < 4) }
         requires held { MayHoldIn self.old.core held.cell }
@@ -207,7 +216,7 @@ impl<P: GracePlan, K: ChainRule, B: Site> Reader<P, K, B> {
         self.core.read_word(held, index)
     }
 
-    /// The four words of an object that the reader holds. It never waits and takes no memory.
+    /// The four words of an object that the reader holds.
     pub fn read(&mut self, held: Held) -> [u64; 4]
         requires open_section { 0 < self.old.core.depth }
         requires held { MayHoldIn self.old.core held.cell }

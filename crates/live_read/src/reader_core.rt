@@ -104,7 +104,7 @@ impl<P: GracePlan, K: ChainRule> ReaderCore<P, K> {
         }
     }
 
-    // One more section or lock, with so many locks of the standard's face. It never waits.
+    // One more section or lock, with this many locks of the standard's face.
     pub(crate) fn enter(&mut self, locks: u64) -> Result<(), Refusal>
         requires { locks ≤ self.old.depth + 1 }
         ensures ok { IfOk result (λ _. BeginsSection P.QSBR K.allows self.old self.new locks) }
@@ -167,7 +167,7 @@ impl<P: GracePlan, K: ChainRule> ReaderCore<P, K> {
         store_inner(&self.table, &mut self.seat, self.slot, word);
     }
 
-    // One section or lock less, with so many locks of the standard's face. It never waits.
+    // One section or lock less, with this many locks of the standard's face.
     pub(crate) fn leave(&mut self, locks: u64)
         requires { locks < self.old.depth }
         ensures ends { EndsSection P.QSBR K.allows self.old self.new locks }
@@ -216,8 +216,8 @@ impl<P: GracePlan, K: ChainRule> ReaderCore<P, K> {
         store_inner(&self.table, &mut self.seat, self.slot, word);
     }
 
-    /// Ends all that is open by one store, which closes its section of the log where it is in one: for a thread that
-    /// is gone or leaves. In the quiescent-state flavour it is offline then. It never waits.
+    /// Ends all that is open by one store, which closes its section of the log where it is in one: for a thread that is
+    /// gone or leaves. In the quiescent-state flavour it is offline then.
     pub fn end(&mut self)
         ensures ends { EndsAll P.QSBR K.allows self.old self.new }
         ensures table { KeepsTable self.old self.new }
@@ -249,7 +249,7 @@ impl<P: GracePlan, K: ChainRule> ReaderCore<P, K> {
 
     /// A lock of the standard's face, [saferecl.rcu.domain.members]: as a section, but that `unlock` ends it.
     ///
-    /// Refused as `section`, and then the reader is as it was. It never waits.
+    /// Refused as `section`, and then the reader is as it was.
     pub fn lock(&mut self) -> Result<(), Refusal>
         ensures ok { IfOk result (λ _. BeginsSection P.QSBR K.allows self.old self.new (self.old.locks + 1)) }
         ensures same { IfErr result (λ _. self.new ≡ self.old) }
@@ -261,7 +261,7 @@ impl<P: GracePlan, K: ChainRule> ReaderCore<P, K> {
 
     /// Undoes a `lock`. A section is ended by dropping it, and never by this.
     ///
-    /// Refused with `NotOpen` exactly where no lock is open, and then the reader is as it was. It never waits.
+    /// Refused with `NotOpen` exactly where no lock is open, and then the reader is as it was.
     pub fn unlock(&mut self) -> Result<(), Refusal>
         ensures ok { IfOk result (λ _. (0 < self.old.locks) × EndsSection P.QSBR K.allows self.old self.new (self.old.locks - 1)) }
         ensures same { IfErr result (λ _. self.new ≡ self.old) }
@@ -278,7 +278,7 @@ impl<P: GracePlan, K: ChainRule> ReaderCore<P, K> {
     /// An offline reader goes online, liburcu's `rcu_thread_online`, which opens a section of the log.
     ///
     /// Refused with `WrongFlavour` in the general-purpose flavour, else with `Busy` exactly where the reader is online;
-    /// then it is as it was. It never waits.
+    /// then it is as it was.
     pub fn online(&mut self) -> Result<(), Refusal>
         ensures ok { IfOk result (λ _. GoesOnline P.QSBR K.allows self.old self.new) }
         ensures same { IfErr result (λ _. self.new ≡ self.old) }
@@ -300,7 +300,7 @@ impl<P: GracePlan, K: ChainRule> ReaderCore<P, K> {
     /// and the next one opens.
     ///
     /// Refused with `WrongFlavour` in the general-purpose flavour, else with `NotOpen` exactly where the reader is
-    /// offline, else with `Busy` exactly while a lock or a section is open; then it is as it was. It never waits.
+    /// offline, else with `Busy` exactly while a lock or a section is open; then it is as it was.
     pub fn quiescent(&mut self) -> Result<(), Refusal>
         ensures ok { IfOk result (λ _. Announces P.QSBR K.allows self.old self.new) }
         ensures same { IfErr result (λ _. self.new ≡ self.old) }
@@ -323,7 +323,7 @@ impl<P: GracePlan, K: ChainRule> ReaderCore<P, K> {
 
     /// An online reader goes offline, liburcu's `rcu_thread_offline`, which closes its section of the log.
     ///
-    /// Refused as `quiescent`, and then the reader is as it was. It never waits.
+    /// Refused as `quiescent`, and then the reader is as it was.
     pub fn offline(&mut self) -> Result<(), Refusal>
         ensures ok { IfOk result (λ _. GoesOffline P.QSBR K.allows self.old self.new) }
         ensures same { IfErr result (λ _. self.new ≡ self.old) }
@@ -354,8 +354,8 @@ impl<P: GracePlan, K: ChainRule> ReaderCore<P, K> {
     }
 }
 
-// One more section than so many. An outermost one gets a number that stands here, so that a processor need not wait for
-// the count that the section before it stored.
+// One more section than this many. An outermost one gets a number that stands here, so that a processor need not wait
+// for the count that the section before it stored.
 fn one_more(depth: u64) -> u64
     requires { depth < 2147483647 }
     ensures { result ≡ depth + 1 }
@@ -371,7 +371,7 @@ fn inner_one_more(depth: u64) -> u64
     depth + 1
 }
 
-// One section less than so many. What is left of an outermost one is a number that stands here.
+// One section less than this many. What is left of an outermost one is a number that stands here.
 fn one_less(depth: u64) -> u64
     requires { 0 < depth }
     ensures { result ≡ depth - 1 }

@@ -22,8 +22,7 @@ impl<P: GracePlan, K: ChainRule> ReaderCore<P, K> {
 
     /// The first object of a chain, which the reader holds from then on, in the lock or section that is open.
     ///
-    /// Refused with `NoPlace` exactly where there is no such chain, and then the reader is as it was. It never waits
-    /// and takes no memory.
+    /// Refused with `NoPlace` exactly where there is no such chain, and then the reader is as it was.
     pub fn first(&mut self, chain: usize) -> Result<Option<Held>, Refusal>
         requires { 0 < self.old.depth }
         ensures refused { IfErr result (λ e. (e ≡ NoPlace) × (self.old.seat.me.0.sizes.chains ≤ chain) × (self.new ≡ self.old)) }
@@ -45,7 +44,7 @@ impl<P: GracePlan, K: ChainRule> ReaderCore<P, K> {
         }))
     }
 
-    /// What follows an object that the reader holds, and is held from then on too. It never waits and takes no memory.
+    /// What follows an object that the reader holds, and is held from then on too.
     pub fn next(&mut self, held: Held) -> Option<Held>
         requires open_section { 0 < self.old.depth }
         requires held { MayHoldIn self.old held.cell }
@@ -65,7 +64,7 @@ impl<P: GracePlan, K: ChainRule> ReaderCore<P, K> {
         })
     }
 
-    /// One of the four words of an object that the reader holds. It never waits and takes no memory.
+    /// One of the four words of an object that the reader holds.
     pub fn read_word(&mut self, held: Held, index: usize) -> u64
         requires open_section { (0 < self.old.depth) × (index < 4) }
         requires held { MayHoldIn self.old held.cell }
@@ -77,7 +76,7 @@ impl<P: GracePlan, K: ChainRule> ReaderCore<P, K> {
         load_word(&self.table, &mut self.seat, held.cell, index)
     }
 
-    /// The four words of an object that the reader holds. It never waits and takes no memory.
+    /// The four words of an object that the reader holds.
     pub fn read(&mut self, held: Held) -> [u64; 4]
         requires open_section { 0 < self.old.depth }
         requires held { MayHoldIn self.old held.cell }

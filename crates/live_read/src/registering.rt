@@ -26,7 +26,7 @@ impl<P: GracePlan, K: ChainRule> ReaderCore<P, K> {
     /// right. One atomic step claims the slot, before the reader is handed out. It is offline in the quiescent-state
     /// flavour.
     ///
-    /// The seat comes back where every slot was found claimed. It takes no memory and never waits.
+    /// The seat comes back where every slot was found claimed.
     pub fn register(
         table: Arc<LiveTable<P, K>>,
         seat: LiveSeat,
@@ -47,7 +47,7 @@ impl<P: GracePlan, K: ChainRule> ReaderCore<P, K> {
     }
 
     /// Ends all that is open, and gives the slot back by one atomic step. Answers the table, and a seat with no right
-    /// that has seen all this. It never waits.
+    /// that has seen all this.
     pub(crate) fn give_back(self) -> (Arc<LiveTable<P, K>>, LiveSeat)
         ensures table { (arc_value result.0).words.shared.table_id ≡ self.seat.table_id }
         ensures given { IsGivenBack P.QSBR K.allows self result.1 }
@@ -69,8 +69,7 @@ impl<P: GracePlan, K: ChainRule> ReaderCore<P, K> {
     /// among the looks shows. Answers a seat that has seen this, and has no right. A reader that is dropped in place of
     /// this keeps its slot claimed.
     ///
-    /// Refused with `Busy` exactly while a section or a lock of it is open; then the reader comes back as it was. It
-    /// takes no memory and never waits.
+    /// Refused with `Busy` exactly while a section or a lock of it is open; then the reader comes back as it was.
     pub fn unregister(self) -> Result<LiveSeat, (Refusal, ReaderCore<P, K>)>
         ensures given { IfOk result (λ s. (self.depth ≡ 0) × IsGivenBack P.QSBR K.allows self s) }
         ensures busy { IfErr result (λ e. (e.0 ≡ Busy) × (e.1 ≡ self) × (0 < self.depth)) }
@@ -136,7 +135,7 @@ impl<P: GracePlan, K: ChainRule, B: Site> Reader<P, K, B> {
     /// is dropped in place of this keeps its slot claimed.
     ///
     /// Refused with `Busy` exactly while a section or a lock of it is open, and then it comes back as it was. It takes
-    /// no lock and no memory, and never waits.
+    /// no lock.
     pub fn unregister<W: Caller<B>>(self, caller: &mut W) -> Result<(), (Refusal, Reader<P, K, B>)>
         ensures left { IfOk result (λ _. self.core.depth ≡ 0) }
         ensures kept { IfOk result (λ _. IsAfter P.QSBR K.allows (W.seen caller.old) (W.heard caller.old) (W.heard caller.new)) }

@@ -18,10 +18,13 @@ use rcu_model::Refusal;
 pub struct Section<'a, P: GracePlan, K: ChainRule, B: Site> {
     /// The reader whose section it is.
     pub reader: &'a mut Reader<P, K, B>,
+    /// It is open: the depth of its reader counts more than the locks.
+    pub ghost open_section: { reader.now.core.locks < reader.now.core.depth },
 }
 
 impl<'a, P: GracePlan, K: ChainRule, B: Site> Section<'a, P, K, B> {
     pub(crate) fn of(reader: &'a mut Reader<P, K, B>) -> Section<'a, P, K, B>
+        requires { reader.old.core.locks < reader.old.core.depth }
         ensures same_reference { result.reader.ghost_name ≡ reader.entry.ghost_name }
         ensures value { result.reader.now ≡ reader.old }
     {
@@ -31,10 +34,8 @@ impl<'a, P: GracePlan, K: ChainRule, B: Site> Section<'a, P, K, B> {
     /// The first object of a chain, which the section holds from then on: liburcu's `rcu_dereference` of a list's head.
     /// It is the first one in the log that the reader has seen at the return, after all that it had seen and heard of.
     ///
-    /// Refused with `NoPlace` exactly where there is no such chain, and then the reader is as it was. It never waits
-    /// and takes no memory.
+    /// Refused with `NoPlace` exactly where there is no such chain, and then the reader is as it was.
     pub fn first(&mut self, chain: usize) -> Result<Option<Held>, Refusal>
-        requires { 0 < self.old.reader.now.core.depth }
         ensures reader { self.new.reader.ghost_name ≡ self.old.reader.ghost_name }
         ensures refused { IfErr result (λ e. (e ≡ NoPlace) × (B.sizes.chains ≤ chain) × (self.new.reader.now ≡ self.old.reader.now)) }
         ensures looked { IfOk result (λ _. (chain < B.sizes.chains) × Looks P.QSBR K.allows self.old.reader.now.core self.new.reader.now.core) }
@@ -47,9 +48,8 @@ impl<'a, P: GracePlan, K: ChainRule, B: Site> Section<'a, P, K, B> {
 
     /// What follows an object that the section holds, and is held from then on too: liburcu's `rcu_dereference` of its
     /// next pointer. It follows the object in the log that the reader has seen at the return: in its chain, or, once it
-    /// is cut, behind what it was before. It never waits and takes no memory.
+    /// is cut, behind what it was before.
     pub fn next(&mut self, held: Held) -> Option<Held>
-        requires open_section { 0 < self.old.reader.now.core.depth }
         requires held { MayHoldIn self.old.reader.now.core held.cell }
         ensures reader { self.new.reader.ghost_name ≡ self.old.reader.ghost_name }
         ensures looked { Looks P.QSBR K.allows self.old.reader.now.core self.new.reader.now.core }
@@ -61,10 +61,8 @@ impl<'a, P: GracePlan, K: ChainRule, B: Site> Section<'a, P, K, B> {
         self.reader.next(held)
     }
 
-    /// The four words of an object that the section holds: those that were published with it. It never waits and takes
-    /// no memory.
+    /// The four words of an object that the section holds: those that were published with it.
     pub fn read(&mut self, held: Held) -> [u64; 4]
-        requires open_section { 0 < self.old.reader.now.core.depth }
         requires held { MayHoldIn self.old.reader.now.core held.cell }
         ensures reader { self.new.reader.ghost_name ≡ self.old.reader.ghost_name }
         ensures looked { Looks P.QSBR K.allows self.old.reader.now.core self.new.reader.now.core }
@@ -75,9 +73,9 @@ impl<'a, P: GracePlan, K: ChainRule, B: Site> Section<'a, P, K, B> {
     }
 
     /// One of the four words of an object that the section holds, the first one at `index` 0: that which was published
-    /// with it. It never waits and takes no memory.
+    /// with it.
     pub fn read_word(&mut self, held: Held, index: usize) -> u64
-        requires open_section { (0 < self.old.reader.now.core.depth) × (index < 4) }
+        requires index { index < 4 }
         requires held { MayHoldIn self.old.reader.now.core held.cell }
         ensures reader { self.new.reader.ghost_name ≡ self.old.reader.ghost_name }
         ensures looked { Looks P.QSBR K.allows self.old.reader.now.core self.new.reader.now.core }
@@ -87,7 +85,7 @@ impl<'a, P: GracePlan, K: ChainRule, B: Site> Section<'a, P, K, B> {
         self.reader.read_word(held, index)
     }
 
-    /// Ends the section, as dropping it does. It never waits.
+    /// Ends the section, as dropping it does.
     pub fn close(self)
         ensures { ClosesSection P.QSBR K.allows self.entry.reader.now.core self.exit.0.now.core }
     {
@@ -100,10 +98,6 @@ impl<'a, P: GracePlan, K: ChainRule, B: Site> Drop for Section<'a, P, K, B> {
         ensures { ClosesSection P.QSBR K.allows self.entry.reader.now.core self.exit.0.now.core }
     {
         let Section { reader } = self;
-        let locks = reader.core.locks;
-        if locks >= reader.core.depth {
-            return;
-        }
-        reader.core.leave(locks);
+        reader.leave();
     }
 }

@@ -11,7 +11,7 @@ use crate::site::Site;
 use gp_memb::GracePlan;
 use live_words::{ChainRule, LiveSeat, LiveTable, load_seq};
 
-/// A seat that has seen all that the caller has seen and heard of. It never waits.
+/// A seat that has seen all that the caller has seen and heard of.
 pub fn tell_all<B: Site, W: Caller<B>, P: GracePlan, K: ChainRule>(
     table: &LiveTable<P, K>,
     caller: &mut W,
@@ -26,7 +26,7 @@ pub fn tell_all<B: Site, W: Caller<B>, P: GracePlan, K: ChainRule>(
     told
 }
 
-/// The caller hears what the seat has seen, which is spent, beside all that it had seen and heard of. It never waits.
+/// The caller hears what the seat has seen, which is spent, beside all that it had seen and heard of.
 pub fn learn_more<B: Site, W: Caller<B>, P: GracePlan, K: ChainRule>(
     table: &LiveTable<P, K>,
     caller: &mut W,
@@ -44,8 +44,7 @@ pub fn learn_more<B: Site, W: Caller<B>, P: GracePlan, K: ChainRule>(
     caller.learn(table, own);
 }
 
-/// The one caller hears what the other has seen and heard of, beside all that it had seen and heard of itself. It
-/// never waits.
+/// The one caller hears what the other has seen and heard of, beside all that it had seen and heard of itself.
 pub fn inform<B: Site, S: Caller<B>, T: Caller<B>, P: GracePlan, K: ChainRule>(
     table: &LiveTable<P, K>,
     from: &mut S,

@@ -1,3 +1,4 @@
+mod Cited
 pub mod Looking
 pub mod Ripening
 pub mod Running

@@ -1,12 +1,5 @@
 -- What two loads tell, one after the other.
-use Rattle.std.proofs.Common.{Bool, ◌≡◌, ℕ, ◌∷◌, sym, ap, ◌∙◌}
-use Rattle.atomic_table.specs.Table.{Me}
-use Rattle.live_log.specs.declared.event.LiveEvent.{LiveEvent}
-use Rattle.live_log.specs.Log.{Log}
-use Rattle.live_log.proofs.Lemmas.{begins_trans}
-use Rattle.live_words.specs.live_rule.declared.view.Look.TheVariants.{Loaded}
-use Rattle.live_words.specs.live_rule.declared.view.View.{View}
-use Rattle.live_words.specs.live_table.Steps.{IsLater, Went, looked_view}
+use Rattle.live_reclaim.proofs.Cited.{Bool, ◌≡◌, ℕ, ◌∷◌, sym, ap, ◌∙◌, Me, LiveEvent, Log, begins_trans, Loaded, View, IsLater, Went, looked_view}
 use Rattle.live_reclaim.specs.Working.{HasLooked, Looks}
 
 looks_as : (v w : View) (l : Looks) → w ≡ record v { seen = w.seen; looks = l } → w ≡ record v { seen = w.seen; looks = w.looks }

@@ -1,19 +1,5 @@
 -- Why the object whose turn it is may be run.
-use Rattle.std.proofs.Common.{◌≡◌, ◌≢◌, ℕ, zero, suc, ◌<◌, List, [], ◌∷◌, ◌++◌, length, sym, refl, ap, ◌∙◌, subst, arith, Bool, true, false, inl, inr, ⊎_elim, ◌==◌}
-use mathlib.Core.Option.{some, some-injective, some-ne-none}
-use Rattle.std.proofs.lemmas.Bool.Decides.{eqb_tells}
-use lib.ListN.{get_elem?}
-use Rattle.atomic_table.proofs.Lists.{at_longer, at_snoc}
-use Rattle.rcu_model.specs.declared.event.ObjectId.{ObjectId}
-use Rattle.rcu_model.proofs.Lemmas.{at_number_same, at_number_other, in_objects}
-use Rattle.rcu_model.specs.Sets.{In, at_number}
-use Rattle.live_log.specs.declared.event.LiveEvent.{LiveEvent}
-use Rattle.live_log.specs.declared.event.LiveEvent.TheVariants.{Open, Close, SeqOdd, SeqEven, Present, ChainNote, CloseQueue, Object}
-use Rattle.live_log.specs.declared.event.ObjectEvent.TheVariants.{Push, Replace, Cut, Retire, Queue, Run}
-use Rattle.live_log.specs.Log.{Log, Begins, Has, HaveEnded, IsLiveRun, line_of, state_of}
-use Rattle.live_log.proofs.Lemmas.{begins_trans, grows_log, has_later, line_grows, ripe, run_of}
-use Rattle.live_words.specs.live_records.Records.{IsRipe}
-use Rattle.live_words.specs.live_queues.Queues.{IsAt}
+use Rattle.live_reclaim.proofs.Cited.{◌≡◌, ◌≢◌, ℕ, zero, suc, ◌<◌, List, [], ◌∷◌, ◌++◌, length, sym, refl, ap, ◌∙◌, subst, arith, Bool, true, false, inl, inr, ⊎_elim, ◌==◌, some, some-injective, some-ne-none, eqb_tells, get_elem?, at_longer, at_snoc, ObjectId, at_number_same, at_number_other, in_objects, In, at_number, LiveEvent, Open, Close, SeqOdd, SeqEven, Present, ChainNote, CloseQueue, Object, Push, Replace, Cut, Retire, Queue, Run, Log, Begins, Has, HaveEnded, IsLiveRun, line_of, state_of, begins_trans, grows_log, has_later, line_grows, ripe, run_of, IsRipe, IsAt}
 
 pub stands_later : (old new : Log) (q n : ℕ) (o : ObjectId) → Begins old new → IsAt q n o old → IsAt q n o new
 stands_later old new q n o b at = let g = line_grows old new q b in ap (λ (l : List ObjectId). get_elem? l n) g.1 ∙ at_longer (line_of old q) g.0 n o at

@@ -1,13 +1,5 @@
 -- What a worker's list keeps.
-use base.Stored.{Gv}
-use Rattle.std.proofs.Common.{Bool, ◌≡◌, ℕ, ◌+◌, List, [], ◌∷◌, ◌++◌, length, sym, ap, subst, arith}
-use Rattle.rcu_model.specs.declared.event.ObjectId.{ObjectId}
-use Rattle.rcu_model.specs.Sets.{In}
-use Rattle.callback_queue.specs.declared.item.Ripe.{Ripe}
-use Rattle.call_rcu_worker.specs.declared.finished.Finished.{Finished}
-use Rattle.live_log.specs.declared.event.LiveEvent.{LiveEvent}
-use Rattle.live_log.specs.Log.{Log, Begins, IsLiveRun, state_of, words_in}
-use Rattle.live_log.proofs.Lemmas.{begins_trans, grows_log, has_since, kept_log, note_stays, run_of}
+use Rattle.live_reclaim.proofs.Cited.{Gv, Bool, ◌≡◌, ℕ, ◌+◌, List, [], ◌∷◌, ◌++◌, length, sym, ap, subst, arith, ObjectId, In, Ripe, Finished, LiveEvent, Log, Begins, IsLiveRun, state_of, words_in, begins_trans, grows_log, has_since, kept_log, note_stays, run_of}
 use Rattle.live_reclaim.specs.Batches.{AreRunAs, IsDue, IsRunAs, ripe_in}
 use Rattle.live_reclaim.proofs.Ripening.{ended_later, stands_later}
 

@@ -10,7 +10,7 @@ use Rattle.live_words.specs.live_rule.declared.view.View.{View}
 use Rattle.live_words.specs.live_rule.declared.rights.WorkRight.TheVariants.{Works}
 use Rattle.live_words.specs.live_queues.Queues.{IsAt}
 
--- the seat works for the queue, of which so many are finished
+-- the seat works for the queue, of which this many are finished
 abbrev pub WorksFor : ℕ → ℕ → View → Type 0
 WorksFor q n v = v.work ≡ Works q n
 
@@ -27,7 +27,7 @@ module _ {D : Type 0} (code : D → Gv) (answers : D → Ripe → ℕ → Type 0
   abbrev pub WasCalled : ℕ → Log → Finished → Type 0
   WasCalled q log entry = (d : D) × WasQueued entry.object q (code d) log × answers d (ripe_in log entry.object) entry.code
 
-  -- the object before which so many were queued has its Run, and the entry tells of it
+  -- the object before which this many were queued has its Run, and the entry tells of it
   pub record IsRunAs (q : ℕ) (log : Log) (n : ℕ) (entry : Finished) : Type 0 where
     pub ticket : entry.ticket.0 ≡ n + 1
     pub turn : IsAt q n entry.object log

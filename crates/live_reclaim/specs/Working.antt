@@ -24,8 +24,8 @@ RefusesWork key q old new e =
     ⊎ ((e ≡ Busy) × (q < key.queues) × (new ≡ Loaded (work_at key q) 1 ∷ old))
     ⊎ ((e ≡ Exhausted) × (q < key.queues) × (new ≡ Loaded (work_at key q) 2 ∷ old))
 
--- Somebody begins to work, of whose queue so many are finished: its hold word was found to be 0 and left at 1, and then
--- the finished count was loaded.
+-- Somebody begins to work, of whose queue this many are finished: its hold word was found to be 0 and left at 1, and
+-- then the finished count was loaded.
 abbrev pub BeginsWork : Bool → (Log → LiveEvent → Type 0) → Sizes → ℕ → ℕ → View → View → ℕ → Type 0
 BeginsWork qsbr allows key queues q old new first =
     (q < queues) × WorksFor q first new × HaveRun q first new.seen × (first ≤ length (line_of new.seen q)) × Precedes old new.seen × IsLiveRun qsbr allows new.seen

@@ -9,7 +9,7 @@ use live_words::{ChainRule, LiveTable, load_closed};
 use rcu_model::Refusal;
 
 /// Why a retirement into the queue is refused: `Closed` exactly where the queue's closed word, which is loaded for the
-/// caller, is 1, and else `Memory`. It never waits and takes no memory.
+/// caller, is 1, and else `Memory`.
 pub fn refusal_of<P: GracePlan, K: ChainRule, B: Site, W: Caller<B>>(
     table: &LiveTable<P, K>,
     caller: &mut W,

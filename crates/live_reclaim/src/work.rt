@@ -13,7 +13,7 @@ use rcu_model::Refusal;
 /// finished.
 ///
 /// Refused with `NoActor` exactly where there is no such queue, with `Busy` where another works for it, and with
-/// `Exhausted` where its last worker found the sequence numbers used up. It never waits and takes no memory.
+/// `Exhausted` where its last worker found the sequence numbers used up.
 pub fn begin_work<P: GracePlan, K: ChainRule>(
     table: &LiveTable<P, K>,
     seat: &mut LiveSeat,
@@ -39,8 +39,8 @@ pub fn begin_work<P: GracePlan, K: ChainRule>(
     Ok(load_finished(table, seat, queue))
 }
 
-/// Whether a worker that has finished so many has no more to do: loads the queue's closed word and then how many were
-/// queued. It is true exactly where the queue is closed and no more were queued. It never waits and takes no memory.
+/// Whether a worker that has finished this many has no more to do: loads the queue's closed word and then how many were
+/// queued. It is true exactly where the queue is closed and no more were queued.
 pub fn is_emptied<P: GracePlan, K: ChainRule>(
     table: &LiveTable<P, K>,
     seat: &mut LiveSeat,

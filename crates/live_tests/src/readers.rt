@@ -33,6 +33,37 @@ fn word_of<B: Site>(reader: &Reader<MembPlan, AnyChain, B>) -> u64 {
     reader.word()
 }
 
+/// Whether an unlock is refused for want of a lock. It leaves the reader as it was.
+fn has_no_lock<B: Site>(reader: &mut Reader<MembPlan, AnyChain, B>) -> bool
+    requires { reader.old.core.locks ≡ 0 }
+    ensures { reader.new ≡ reader.old }
+{
+    match reader.unlock() {
+        Ok(()) => false,
+        Err(refusal) => matches!(refusal, Refusal::NotOpen),
+    }
+}
+
+/// Whether an announcement is refused as `Busy`. It ends no section.
+fn is_busy<B: Site>(reader: &mut Reader<QsbrPlan, AnyChain, B>) -> bool
+    ensures { (reader.new.core.depth ≡ reader.old.core.depth) × (reader.new.core.locks ≡ reader.old.core.locks) }
+{
+    match reader.quiescent() {
+        Ok(()) => false,
+        Err(refusal) => matches!(refusal, Refusal::Busy),
+    }
+}
+
+/// Whether going offline is refused as `Busy`. It ends no section.
+fn stays_online<B: Site>(reader: &mut Reader<QsbrPlan, AnyChain, B>) -> bool
+    ensures { (reader.new.core.depth ≡ reader.old.core.depth) × (reader.new.core.locks ≡ reader.old.core.locks) }
+{
+    match reader.offline() {
+        Ok(()) => false,
+        Err(refusal) => matches!(refusal, Refusal::Busy),
+    }
+}
+
 fn nests<B: Site>(reader: &mut Reader<MembPlan, AnyChain, B>) -> Result<([u64; 5], bool), Refusal>
     requires { (reader.old.core.depth ≡ 0) × (reader.old.core.locks ≡ 0) }
 {
@@ -45,7 +76,7 @@ fn nests<B: Site>(reader: &mut Reader<MembPlan, AnyChain, B>) -> Result<([u64; 5
     outer.reader.lock()?;
     let locked = word_of(&*outer.reader);
     outer.reader.unlock()?;
-    let refused = matches!(outer.reader.unlock(), Err(Refusal::NotOpen));
+    let refused = has_no_lock(outer.reader);
     let alive = word_of(&*outer.reader);
     outer.close();
     Ok(([one, two, left, locked, alive], refused))
@@ -77,11 +108,11 @@ fn announces<B: Site>(
     let locked = matches!(reader.quiescent(), Err(Refusal::Busy));
     reader.unlock()?;
     let mut section = reader.section()?;
-    let inside = matches!(section.reader.quiescent(), Err(Refusal::Busy));
+    let inside = is_busy(section.reader);
     let nested = section.reader.section()?;
-    let within = matches!(nested.reader.offline(), Err(Refusal::Busy));
-    drop(nested);
-    drop(section);
+    let within = stays_online(nested.reader);
+    nested.close();
+    section.close();
     reader.quiescent()?;
     let announced = reader.word();
     reader.offline()?;

@@ -1,12 +1,5 @@
 -- The chains of a seat that took in another's, and of one that cut it off.
-use Rattle.std.proofs.Common.{◌≡◌, List, [], ◌∷◌, ◌++◌, refl, sym, ◌∙◌, subst}
-use Rattle.rcu_model.specs.Sets.{first_of}
-use Rattle.live_log.specs.Log.{Log, chain_note, objects_of}
-use Rattle.live_words.specs.live_rule.declared.rights.ChainRight.{ChainRight}
-use Rattle.live_words.specs.live_rule.declared.view.View.{View}
-use Rattle.live_words.specs.live_rule.Objects.{ref}
-use Rattle.live_words.specs.live_rule.Seats.{lent_chains, own_chain}
-use Rattle.live_words.specs.live_table.Rights.{IsListed, own_in}
+use Rattle.live_write.proofs.Cited.{◌≡◌, List, [], ◌∷◌, ◌++◌, refl, sym, ◌∙◌, subst, first_of, Log, chain_note, objects_of, ChainRight, View, ref, lent_chains, own_chain, IsListed, own_in}
 
 -- the seat has a chain of its own
 abbrev pub HasOwn : List ChainRight → Type 0

@@ -1,14 +1,5 @@
 -- The four words of a record, stored one after the other.
-use Rattle.std.proofs.Common.{Bool, ◌≡◌, ℕ, List, [], ◌∷◌, length, get_or, set, sym, refl, ap, ◌∙◌, arith}
-use Rattle.atomic_table.specs.Table.{Me}
-use Rattle.live_log.specs.declared.event.LiveEvent.{LiveEvent}
-use Rattle.live_log.specs.Log.{Log}
-use Rattle.live_words.specs.live_rule.declared.view.View.{View}
-use Rattle.live_words.specs.live_rule.declared.rights.RecordRight.{RecordRight}
-use Rattle.live_words.specs.live_rule.declared.rights.RecordRight.TheVariants.{Fresh}
-use Rattle.live_words.specs.live_table.Rights.{cell_in, link_in, object_in, payload_in}
-use Rattle.live_words.specs.live_table.Steps.{Went}
-use Rattle.live_words.specs.live_records.Records.{worded_view}
+use Rattle.live_write.proofs.Cited.{Bool, ◌≡◌, ℕ, List, [], ◌∷◌, length, get_or, set, sym, refl, ap, ◌∙◌, arith, Me, LiveEvent, Log, View, RecordRight, Fresh, cell_in, link_in, object_in, payload_in, Went, worded_view}
 use Rattle.live_write.specs.Searching.{Fills}
 use Rattle.live_write.proofs.Searching.{right_is, searched_then}
 

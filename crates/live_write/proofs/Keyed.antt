@@ -1,14 +1,5 @@
 -- A writer under the rule of keyed chains shows what the rule asks by its list and the notes that it has seen.
-use Rattle.std.proofs.Common.{Bool, ◌≡◌, ◌≢◌, ◌<◌, subst}
-use Rattle.rcu_model.specs.declared.event.ObjectId.{ObjectId}
-use Rattle.rcu_model.specs.Sets.{In}
-use Rattle.live_log.specs.declared.event.LiveEvent.{LiveEvent}
-use Rattle.live_log.specs.Keys.{key_of, rank_of, Falls, keyed}
-use Rattle.live_log.specs.Log.{Log, IsLiveRun, record_of}
-use Rattle.live_log.proofs.Lemmas.{each_falls}
-use Rattle.live_words.specs.live_rule.declared.view.View.{View}
-use Rattle.live_words.specs.live_table.Rights.{IsListed, IsWriter, own_in, payload_in}
-use Rattle.live_words.specs.live_chains.Chains.{MayWrite, cut_of}
+use Rattle.live_write.proofs.Cited.{Bool, ◌≡◌, ◌≢◌, ◌<◌, subst, ObjectId, In, LiveEvent, key_of, rank_of, Falls, keyed, Log, IsLiveRun, record_of, each_falls, View, IsListed, IsWriter, own_in, payload_in, MayWrite, cut_of}
 use Rattle.live_words.proofs.live_chains.Lemmas as chains
 use Rattle.live_write.specs.Chains.{MayPublish, list_in, push_by, replace_by}
 

@@ -1,3 +1,4 @@
+mod Cited
 pub mod Filling
 pub mod Publishing
 pub mod Searching

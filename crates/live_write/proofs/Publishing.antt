@@ -1,31 +1,7 @@
 -- What a writer publishes comes after all that it, its caller and who allocated the record had seen and heard of.
-use Rattle.std.proofs.Common.{Bool, ◌≡◌, ℕ, ◌∷◌, ◌++◌, [], List, Option, Some, None, slice_get, sym, refl, ap, ◌∙◌, subst}
-use Rattle.atomic_table.specs.Table.{Me}
-use Rattle.rcu_model.specs.declared.event.ObjectId.{ObjectId}
-use Rattle.rcu_model.specs.Sets.{In, IsPlace, follows, next_of, without_object, replaced}
-use Rattle.rcu_model.proofs.Lemmas.{follows_has}
-use Rattle.live_log.specs.declared.event.LiveEvent.{LiveEvent}
-use Rattle.live_log.specs.declared.event.LiveEvent.TheVariants.{ChainNote, Object}
-use Rattle.live_log.specs.declared.event.ObjectEvent.TheVariants.{Push, Replace, Cut}
-use Rattle.live_log.specs.Log.{Log, Begins, record_of, objects_of, state_of}
-use Rattle.live_log.proofs.Lemmas.{begins_trans}
-use Rattle.live_words.specs.live_rule.declared.view.Look.{Look}
-use Rattle.live_words.specs.live_rule.declared.view.View.{View}
-use Rattle.live_words.specs.live_rule.declared.rights.ChainRight.{ChainRight}
-use Rattle.live_words.specs.live_rule.declared.rights.RecordRight.{RecordRight}
-use Rattle.live_words.specs.live_rule.declared.rights.RecordRight.TheVariants.{Unlinked}
+use Rattle.live_write.proofs.Cited.{Bool, ◌≡◌, ℕ, ◌∷◌, ◌++◌, [], List, Option, Some, None, slice_get, sym, refl, ap, ◌∙◌, subst, Me, ObjectId, In, IsPlace, follows, next_of, without_object, replaced, follows_has, LiveEvent, ChainNote, Object, Push, Replace, Cut, Log, Begins, record_of, objects_of, state_of, begins_trans, Look, View, ChainRight, RecordRight, Unlinked, but_object, object_alone, lent_chains, heard_view, taken_view, ref, Wrote, begins_nothing, AreAsKnown, IsFresh, IsListed, IsUnlinked, IsWriter, own_in, object_in, cell_in, link_in, payload_in, IsNow, Went, LoadedSeq, MayNote, MayWrite, Writes, IsBefore, IsThere, push_of, cut_of, cut_view, replace_of, replaced_view, head_after, note_same, there_after, IsAfter, IsAsBefore, OnlyMakesLast, Ghosts}
 use Rattle.live_words.specs.live_rule.declared.rights.RecordRight.TheVariants as record_right
-use Rattle.live_words.specs.live_rule.Seats.{but_object, object_alone, lent_chains, heard_view, taken_view}
-use Rattle.live_words.specs.live_rule.Objects.{ref}
-use Rattle.live_words.specs.live_rule.Steps.{Wrote}
-use Rattle.live_words.proofs.live_rule.Lemmas.{begins_nothing}
-use Rattle.live_words.specs.live_table.Rights.{AreAsKnown, IsFresh, IsListed, IsUnlinked, IsWriter, own_in, object_in, cell_in, link_in, payload_in}
-use Rattle.live_words.specs.live_table.Steps.{IsNow, Went}
-use Rattle.live_words.specs.live_periods.Periods.{LoadedSeq}
-use Rattle.live_words.specs.live_chains.Chains.{MayNote, MayWrite, Writes, IsBefore, IsThere, push_of, cut_of, cut_view, replace_of, replaced_view, head_after}
-use Rattle.live_words.proofs.live_chains.Lemmas.{note_same, there_after}
-use Rattle.live_read.specs.Hearing.{IsAfter, IsAsBefore, OnlyMakesLast}
-use Rattle.live_read.specs.declared.caller.Caller.{Ghosts}
+use Rattle.live_write.specs.Calls.{HasLearned}
 use Rattle.live_write.specs.Chains.{GoesOn, MayPublish, MayReserve, Publishes, list_in, push_by, replace_by}
 
 -- what a seat with the writer's chains has seen and heard of: all that the writer had seen and heard of, and its
@@ -70,6 +46,13 @@ may_reserve qsbr allows v w u seen heard h same is_fresh chain note is may log s
     subst (λ (c : ℕ). allows log (ChainNote c note)) is (may log (goes_on qsbr allows v w seen heard u.seen h log saw heard_of) run (subst (AreAsKnown log) h.chains known)
     (subst (λ (r : RecordRight). ¬ In (state_of log).used (object_in r)) same (fresh (subst (λ (r : RecordRight). r ≡ record_right.Fresh (cell_in r) (object_in r) (link_in r) (payload_in r)) (sym same) is_fresh))))
 
+-- a view that heard so, and then made a load, has learned
+pub has_learned : (v w n : View) (seen heard : Log) (more : List Log) → w ≡ record v { seen = seen; heard = heard; loads = more ++ v.loads } → IsNow w n → Begins w.heard n.seen → HasLearned v n
+has_learned v w n seen heard more is now before =
+    let all : n ≡ record v { seen = n.seen; heard = heard; loads = more ++ v.loads } = now ∙ ap (λ (z : View). record z { seen = n.seen }) is in
+    let still : n.heard ≡ w.heard = ap (λ (z : View). z.heard) now in
+    (more, all ∙ (λ i. record v { seen = n.seen; heard = ap (λ (z : View). z.heard) (sym all) i; loads = more ++ v.loads }), subst (λ (l : Log). Begins l n.seen) (sym still) before)
+
 module _ {S : Type 0} (qsbr : Bool) (allows : Log → LiveEvent → Type 0) (seen heard : Log) (m f w : Me S View) (went : Went qsbr allows m.0 m f) where
   -- the writer's seat has made a load, and then heard what its caller's seat has seen
   pub hears_caller : (t : View) → IsAfter qsbr allows seen heard t.seen → w ≡ (heard_view f.0 t, f.1) → Hears m.0 w.0 seen heard []
@@ -79,6 +62,10 @@ module _ {S : Type 0} (qsbr : Bool) (allows : Log → LiveEvent → Type 0) (see
     of_caller = subst (λ (l : Log). Begins seen l × Begins heard l) (ap (λ (z : Me S View). z.0.heard) (sym is)) (told.after_seen, told.after_heard);
     of_owner = begins_nothing w.0.heard;
   }
+
+  -- so of the writer's view nothing else has changed
+  pub heard_alone : (t : View) → t.looks ≡ [] → w ≡ (heard_view f.0 t, f.1) → w.0 ≡ record m.0 { seen = f.0.seen; heard = t.seen; loads = t.loads ++ m.0.loads }
+  heard_alone t none is = ap (λ (z : Me S View). z.0) is ∙ (ap (λ (z : View). heard_view z t) went.1 ∙ ap (λ (ls : List Look). record m.0 { seen = f.0.seen; heard = t.seen; looks = ls ++ m.0.looks; loads = t.loads ++ m.0.loads }) none)
 
   -- or taken in the record of the caller's seat, which has loaded the sequence number
   pub hears_owner : (t : View) (u : View) (a b : Me S View) → IsAfter qsbr allows seen heard t.seen → a.0 ≡ taken_view t u → LoadedSeq qsbr allows a b → w ≡ (taken_view f.0 b.0, f.1) → Hears m.0 w.0 seen heard u.seen

@@ -1,20 +1,5 @@
 -- Searches one after the other, and what they found.
-use Rattle.std.proofs.Common.{Bool, Option, None, Some, IfNone, MatchBool, ◌==◌, eq-eqb, ne_eqb, ◌≡◌, ◌≢◌, ℕ, ◌+◌, ◌<◌, ◌≤◌, List, [], ◌∷◌, ◌++◌, sym, refl, ap, ◌∙◌, subst, inr, arith, lt_of_not-le, append_assoc}
-use mathlib.Core.Logic.{dite}
-use native.Mathlib.Decide.{ℕ_discrete, dec_le}
-use Rattle.atomic_table.specs.Table.{Me}
-use Rattle.live_log.specs.declared.event.LiveEvent.{LiveEvent}
-use Rattle.live_log.specs.Log.{Begins, Log}
-use Rattle.live_words.specs.live_rule.declared.view.Look.{Look}
-use Rattle.live_words.specs.live_rule.declared.view.Sizes.{Sizes}
-use Rattle.live_words.specs.live_rule.declared.view.View.{View}
-use Rattle.live_words.specs.live_rule.declared.rights.RecordRight.{RecordRight}
-use Rattle.live_words.specs.live_rule.declared.rights.RecordRight.TheVariants.{Fresh}
-use Rattle.live_words.specs.live_rule.Places.{cell_at}
-use Rattle.live_words.specs.live_table.Rights.{link_in, object_in, payload_in}
-use Rattle.live_words.specs.live_table.Steps.{IsLater}
-use Rattle.live_words.proofs.live_table.Lemmas.{found_left, found_right}
-use Rattle.live_log.proofs.Lemmas.{begins_trans}
+use Rattle.live_write.proofs.Cited.{Bool, Option, None, Some, IfNone, MatchBool, ◌==◌, eq-eqb, ne_eqb, ◌≡◌, ◌≢◌, ℕ, ◌+◌, ◌<◌, ◌≤◌, List, [], ◌∷◌, ◌++◌, sym, refl, ap, ◌∙◌, subst, inr, arith, lt_of_not-le, append_assoc, dite, ℕ_discrete, dec_le, Me, LiveEvent, Begins, Log, Look, Sizes, View, RecordRight, Fresh, cell_at, link_in, object_in, payload_in, IsLater, found_left, found_right, begins_trans}
 use Rattle.live_write.specs.Searching.{AreTaken, IsTaken, Searched, Takes}
 
 module _ {S : Type 0} (qsbr : Bool) (allows : Log → LiveEvent → Type 0) where

@@ -1,20 +1,5 @@
 -- Where a writer stands in a walk over its chain.
-use Rattle.std.proofs.Common.{Bool, ◌≡◌, ◌≢◌, ℕ, ◌+◌, ◌-◌, ◌<◌, ◌≤◌, zero, suc, List, [], ◌∷◌, ◌++◌, length, Option, Some, None, IfSome, slice_get, sym, refl, ap, ◌∙◌, subst, inl, inr, arith, length-append, append_assoc, append-nil}
-use Rattle.atomic_table.specs.Table.{Me}
-use Rattle.rcu_model.specs.declared.event.ObjectId.{ObjectId}
-use Rattle.rcu_model.specs.Sets.{In, IsPlace, follows, first_of, next_of, same_object, without_object, replaced}
-use Rattle.rcu_model.proofs.Lemmas.{Once, Tells, object_tells, follows_has, some_is, none_some}
-use Rattle.live_log.specs.declared.event.LiveEvent.{LiveEvent}
-use Rattle.live_log.specs.Log.{Log, record_of, objects_of}
-use Rattle.live_log.proofs.Lemmas.{begins_trans, kept_log}
-use Rattle.live_words.specs.live_rule.declared.view.View.{View}
-use Rattle.live_words.specs.live_rule.declared.rights.ChainRight.{ChainRight}
-use Rattle.live_words.specs.live_rule.Objects.{ref}
-use Rattle.live_words.specs.live_rule.Seats.{lent_chains}
-use Rattle.live_words.specs.live_table.Rights.{own_in, IsWriter, IsListed, KnowsChains}
-use Rattle.live_words.specs.live_table.Steps.{Went}
-use Rattle.live_words.specs.live_chains.Chains.{IsBefore, IsThere, IsNext, MayRead}
-use Rattle.live_words.proofs.live_chains.Lemmas.{note_same}
+use Rattle.live_write.proofs.Cited.{Bool, ◌≡◌, ◌≢◌, ℕ, ◌+◌, ◌-◌, ◌<◌, ◌≤◌, zero, suc, List, [], ◌∷◌, ◌++◌, length, Option, Some, None, IfSome, slice_get, sym, refl, ap, ◌∙◌, subst, inl, inr, arith, length-append, append_assoc, append-nil, Me, ObjectId, In, IsPlace, follows, first_of, next_of, same_object, without_object, replaced, Once, Tells, object_tells, follows_has, some_is, none_some, LiveEvent, Log, record_of, objects_of, begins_trans, kept_log, View, ChainRight, ref, lent_chains, own_in, IsWriter, IsListed, KnowsChains, Went, IsBefore, IsThere, IsNext, MayRead, note_same}
 
 in_middle : (front : List ObjectId) (o : ObjectId) (rest : List ObjectId) → In (front ++ o ∷ rest) o
 in_middle [] o rest = inl refl
@@ -92,7 +77,7 @@ went_both qsbr allows m n p a b = (
   (begins_trans m.0.seen n.0.seen p.0.seen a.2.0 b.2.0, begins_trans m.0.heard n.0.seen p.0.seen a.2.1 b.2.0, b.2.2),
 )
 
--- the writer stands past so many objects of its chain, before the word that it loaded last
+-- the writer stands past this many objects of its chain, before the word that it loaded last
 pub record Stands {S : Type 0} (qsbr : Bool) (allows : Log → LiveEvent → Type 0) (m0 m : Me S View) (n : ℕ) (before : Option ℕ) (word : ℕ) : Type 0 where
   pub went : Went qsbr allows m0.0 m0 m
   pub listed : IsListed m.0

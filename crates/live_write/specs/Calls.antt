@@ -1,5 +1,5 @@
 -- What a call of a chain's writer does.
-use Rattle.std.specs.Prelude.{◌≡◌, ◌⊎◌, Bool, ℕ, ◌+◌, ◌*◌, ◌^◌, ◌<◌, ◌≤◌, List, [], ◌∷◌, Some, slice_get}
+use Rattle.std.specs.Prelude.{◌≡◌, ◌⊎◌, Bool, ℕ, ◌+◌, ◌*◌, ◌^◌, ◌<◌, ◌≤◌, List, [], ◌∷◌, ◌++◌, Some, slice_get}
 use Rattle.atomic_table.specs.Table.{Me}
 use Rattle.atomic_table.specs.declared.shared.Seat.{Seat}
 use Rattle.rcu_model.specs.declared.event.ObjectId.{ObjectId}
@@ -16,7 +16,7 @@ use Rattle.live_words.specs.live_rule.declared.view.View.{View}
 use Rattle.live_words.specs.live_rule.Places.{cell_at, hold_at}
 use Rattle.live_words.specs.live_rule.Seats.{lent_chains}
 use Rattle.live_words.specs.live_table.Rights.{cell_in, object_in, own_in}
-use Rattle.live_words.specs.live_table.Steps.{Keeps, Went, looked_view}
+use Rattle.live_words.specs.live_table.Steps.{IsLater, Keeps, Went, looked_view}
 use Rattle.live_words.specs.live_chains.Chains.{cut_of}
 use Rattle.live_read.specs.Hearing.{IsAfter}
 use Rattle.live_read.specs.declared.caller.Caller.{Ghosts}
@@ -26,11 +26,19 @@ use Rattle.live_write.specs.Chains.{MayPublish, MayReserve, Publishes, list_in, 
 abbrev pub reservation : View → ℕ
 reservation u = 2 ^ 63 + (object_in u.object).0
 
+-- The view is this one, but that it has seen more, and heard of what it has seen. More loads may be told.
+abbrev pub HasLearned : View → View → Type 0
+HasLearned v w = (more : List Log) × (w ≡ record v { seen = w.seen; heard = w.heard; loads = more ++ v.loads }) × Begins w.heard w.seen
+
 -- by a seat before and after, and by the number of its chain
 module _ {T : Type 0} (qsbr : Bool) (allows : Log → LiveEvent → Type 0) (before after : Seat T View) (was is : ℕ) where
   -- the writer of a chain has only looked
   abbrev pub OnlyLooks : Type 0
   OnlyLooks = Keeps before after × Went qsbr allows before.me.0 before.me after.me × (is ≡ was)
+
+  -- or it may have heard of more, too
+  abbrev pub OnlyLearns : Type 0
+  OnlyLearns = Keeps before after × (after.me.1 ≡ before.me.1) × HasLearned before.me.0 after.me.0 × IsLater qsbr allows before.me.0 after.me.0 × (is ≡ was)
 
   -- which is of the same domain
   abbrev pub OnlyLooksIn : {D : Type 0} → D → D → Type 0

@@ -95,8 +95,7 @@ pub fn alloc<P: GracePlan, K: ChainRule, B: Site, W: Caller<B>, R: Wait>(
 }
 
 /// Frees a record that no chain has linked: stores 0 in its header. Its object's number is given to no other. The
-/// caller hears of what was seen at the allocation; the store is kept among the words that were found for it. It never
-/// waits and takes no memory.
+/// caller hears of what was seen at the allocation; the store is kept among the words that were found for it.
 pub fn discard<P: GracePlan, K: ChainRule, B: Site, W: Caller<B>>(
     table: &LiveTable<P, K>,
     caller: &mut W,

@@ -11,7 +11,7 @@ ghost use Rattle.live_words.specs.live_rule.Places.{hold_at};
 ghost use Rattle.live_words.specs.live_rule.Seats.{lent_chains};
 ghost use Rattle.live_words.specs.live_table.Rights.{AreAsKnown, IsListed, IsWriter, object_in, own_in};
 ghost use Rattle.live_read.specs.Hearing.{IsAfter, OnlyHears, OnlyMakesLast, Stays};
-ghost use Rattle.live_write.specs.Calls.{GetsNote, GetsObject, HasList, HearsAll, IsCutFrom, IsHad, IsNotHad, LosesObject, MayCut, MayPush, MayReplace, MayReserveFor, OnlyLooksIn, PublishesCut, PublishesPush, PublishesReplace, PublishesReservation, TakesIn, reservation};
+ghost use Rattle.live_write.specs.Calls.{GetsNote, GetsObject, HasList, HearsAll, IsCutFrom, IsHad, IsNotHad, LosesObject, MayCut, MayPush, MayReplace, MayReserveFor, OnlyLearns, OnlyLooksIn, PublishesCut, PublishesPush, PublishesReplace, PublishesReservation, TakesIn, reservation};
 ghost use Rattle.live_write.specs.Chains.{IsFirstWith, MayPublish, Publishes, first_word, list_in};
 
 use crate::lending::{Lent, take_right};
@@ -32,8 +32,8 @@ pub struct Chain<'d, P: GracePlan, K: ChainRule, B: Site, H> {
     /// What it was taken of.
     pub home: &'d H,
     pub(crate) table: &'d LiveTable<P, K>,
-    /// What it has seen, and its right to the chain, whose objects it knows.
-    pub seat: LiveSeat,
+    // What it has seen, and its right to the chain, whose objects it knows.
+    pub(crate) seat: LiveSeat,
     /// The chain's number.
     pub number: usize,
     // How many objects the chain links.
@@ -50,7 +50,7 @@ impl<'d, P: GracePlan, K: ChainRule, B: Site, H> Chain<'d, P, K, B, H> {
     /// was seen at the taking; the writer knows the list and the note of the log that it has seen, and no other chain.
     ///
     /// Refused with `NoPlace` exactly where there is no such chain, else with `Busy` exactly where its hold word was
-    /// found to be 1, which `looks` tells. It takes no memory and never waits.
+    /// found to be 1, which `looks` tells.
     pub fn hold<W: Caller<B>>(
         home: &'d H,
         table: &'d LiveTable<P, K>,
@@ -87,7 +87,7 @@ impl<'d, P: GracePlan, K: ChainRule, B: Site, H> Chain<'d, P, K, B, H> {
         })
     }
 
-    /// The chain's number. It never waits.
+    /// The chain's number.
     pub fn number(&self) -> usize
         ensures number { result ≡ self.now.number }
         ensures low { result < B.sizes.chains }
@@ -95,14 +95,14 @@ impl<'d, P: GracePlan, K: ChainRule, B: Site, H> Chain<'d, P, K, B, H> {
         self.number
     }
 
-    /// What the chain was taken of: its domain. It never waits.
+    /// What the chain was taken of: its domain.
     pub fn domain(&self) -> &'d H
         ensures { result.now ≡ self.now.home.now }
     {
         self.home
     }
 
-    /// How many objects the chain links, by the list that its writer knows. It never waits.
+    /// How many objects the chain links, by the list that its writer knows.
     pub fn len(&self) -> usize
         ensures { result ≡ length (list_in self.now.seat.me.0) }
     {
@@ -111,7 +111,7 @@ impl<'d, P: GracePlan, K: ChainRule, B: Site, H> Chain<'d, P, K, B, H> {
 
     /// The object of a record becomes the first of the chain, liburcu's `cds_list_add_rcu`: its link is stored, and
     /// then the head. The event comes after all that the caller and who allocated the record had seen, and the caller
-    /// hears of it. The chain's rule has to allow it wherever it may come. It takes no memory and never waits.
+    /// hears of it. The chain's rule has to allow it wherever it may come.
     pub fn push<W: Caller<B>>(&mut self, caller: &mut W, owned: Owned<B>) -> ObjectId
         requires rule { MayPush W.Caller P.QSBR K.allows caller.old self.old.seat.me.0 owned.seat.me.0 }
         ensures object { result ≡ object_in owned.seat.me.0.object }
@@ -128,7 +128,7 @@ impl<'d, P: GracePlan, K: ChainRule, B: Site, H> Chain<'d, P, K, B, H> {
     }
 
     /// The payload of the object at an index, by the list that the writer knows: the four words that `alloc` was given.
-    /// None exactly where the index is not below the length. It walks from the head, and never waits.
+    /// None exactly where the index is not below the length. It walks from the head.
     pub fn get(&mut self, index: usize) -> Option<[u64; 4]>
         ensures some { IfSome result (λ words. (o : ObjectId) × (slice_get (list_in self.old.seat.me.0) index ≡ Some o) × (words ≡ payload_of self.new.seat.me.0.seen o)) }
         ensures walked { IfSome result (λ _. OnlyLooksIn P.QSBR K.allows self.old.seat self.new.seat self.old.number self.new.number self.old.home.now self.new.home.now) }
@@ -141,7 +141,7 @@ impl<'d, P: GracePlan, K: ChainRule, B: Site, H> Chain<'d, P, K, B, H> {
     }
 
     /// The index of the first object whose payload begins with this word, by the list that the writer knows: None
-    /// exactly where none does. It walks from the head, loads one word of each object, and never waits.
+    /// exactly where none does. It walks from the head, and loads one word of each object.
     pub fn index_of(&mut self, word: u64) -> Option<usize>
         ensures found { IfSome result (λ index. IsFirstWith self.new.seat.me.0.seen (list_in self.old.seat.me.0) word index) }
         ensures none { IfNone result ((o : ObjectId) → In (list_in self.old.seat.me.0) o → first_word self.new.seat.me.0.seen o ≢ word) }
@@ -154,8 +154,7 @@ impl<'d, P: GracePlan, K: ChainRule, B: Site, H> Chain<'d, P, K, B, H> {
     /// to what follows it, and its own link stays. The event comes after all that the caller had seen, and the caller
     /// hears of it. The chain's rule has to allow it wherever it may come.
     ///
-    /// Refused with `NoPlace` exactly where the index is not below the length, and then nothing changes. It takes no
-    /// memory and never waits.
+    /// Refused with `NoPlace` exactly where the index is not below the length, and then nothing changes.
     pub fn cut<W: Caller<B>>(
         &mut self,
         caller: &mut W,
@@ -183,7 +182,7 @@ impl<'d, P: GracePlan, K: ChainRule, B: Site, H> Chain<'d, P, K, B, H> {
     /// allow it wherever it may come.
     ///
     /// Refused with `NoPlace` exactly where the index is not below the length; then nothing changes, and the record
-    /// comes back. It takes no memory and never waits.
+    /// comes back.
     pub fn replace<W: Caller<B>>(
         &mut self,
         caller: &mut W,
@@ -214,8 +213,7 @@ impl<'d, P: GracePlan, K: ChainRule, B: Site, H> Chain<'d, P, K, B, H> {
         Ok(Unlinked::of(left, was, self.number))
     }
 
-    /// The chain's note, which this writer alone may change: that of the log that it has seen at the return. It never
-    /// waits.
+    /// The chain's note, which this writer alone may change: that of the log that it has seen at the return.
     pub fn note(&mut self) -> u64
         ensures note { (result ≡ (own_in self.old.seat.me.0.chains).note) × (result ≡ chain_note self.old.number self.new.seat.me.0.seen) }
         ensures looked { OnlyLooksIn P.QSBR K.allows self.old.seat self.new.seat self.old.number self.new.number self.old.home.now self.new.home.now }
@@ -225,9 +223,10 @@ impl<'d, P: GracePlan, K: ChainRule, B: Site, H> Chain<'d, P, K, B, H> {
 
     /// The writer sees all that the caller has seen and heard of, by a load of the chain's note, and the caller hears
     /// of what the writer has seen then. So the list and the note that the writer knows are those of a log that comes
-    /// after all that its caller knew. It takes no memory and never waits.
+    /// after all that its caller knew.
     pub fn hear<W: Caller<B>>(&mut self, caller: &mut W)
         ensures chains { (self.new.seat.me.0.chains ≡ self.old.seat.me.0.chains) × (self.new.number ≡ self.old.number) × (self.new.home.now ≡ self.old.home.now) }
+        ensures learned { OnlyLearns P.QSBR K.allows self.old.seat self.new.seat self.old.number self.new.number }
         ensures told { HearsAll W.Caller P.QSBR K.allows caller.old self.old.seat.me.0 self.new.seat.me.0.seen }
         ensures known { AreAsKnown self.new.seat.me.0.seen self.new.seat.me.0.chains }
         ensures heard { W.heard caller.new ≡ self.new.seat.me.0.seen }
@@ -237,7 +236,7 @@ impl<'d, P: GracePlan, K: ChainRule, B: Site, H> Chain<'d, P, K, B, H> {
     }
 
     /// The chain's note becomes this one. The note comes after all that the caller had seen, and the caller hears of
-    /// it. The chain's rule has to allow it wherever it may come. It takes no memory and never waits.
+    /// it. The chain's rule has to allow it wherever it may come.
     pub fn set_note<W: Caller<B>>(&mut self, caller: &mut W, note: u64)
         requires rule { MayPublish P.QSBR K.allows self.old.seat.me.0 (W.seen caller.old) (W.heard caller.old) [] (ChainNote self.old.number note) }
         ensures note { GetsNote self.old.seat self.new.seat self.old.number self.new.number self.old.home.now self.new.home.now note }
@@ -249,9 +248,9 @@ impl<'d, P: GracePlan, K: ChainRule, B: Site, H> Chain<'d, P, K, B, H> {
     }
 
     /// The chain is reserved for the object of a record, which no chain has linked: its note becomes 2^63 and the
-    /// object's number. The record comes back, for other chains and for a push. The note comes after all that the caller
-    /// and who allocated the record had seen, and the caller hears of it. The chain's rule has to allow it wherever it
-    /// may come. It takes no memory and never waits.
+    /// object's number. The record comes back, for other chains and for a push. The note comes after all that the
+    /// caller and who allocated the record had seen, and the caller hears of it. The chain's rule has to allow it
+    /// wherever it may come.
     pub fn reserve<W: Caller<B>>(&mut self, caller: &mut W, owned: Owned<B>) -> Owned<B>
         requires rule { MayReserveFor W.Caller P.QSBR K.allows caller.old self.old.seat.me.0 owned.seat.me.0 self.old.number }
         ensures note { GetsNote self.old.seat self.new.seat self.old.number self.new.number self.old.home.now self.new.home.now (reservation owned.seat.me.0) }
@@ -284,7 +283,7 @@ impl<'d, P: GracePlan, K: ChainRule, B: Site, H> Chain<'d, P, K, B, H> {
 
     /// Lends the chain's right to another chain's writer, behind those that were lent to that before. That writer has
     /// seen then all that this one had, and knows this chain's list and note in each log in which it publishes until
-    /// they are taken back. It never waits.
+    /// they are taken back.
     pub fn lend(self, to: &mut Chain<'_, P, K, B, H>) -> Lent<'d, P, K, B, H>
         requires { lent_chains self.seat.me.0.chains ≡ [] }
         ensures lent { (result.number ≡ self.entry.number) × (result.linked ≡ length (list_in self.entry.seat.me.0)) × (result.home.now ≡ self.entry.home.now) }
@@ -311,7 +310,7 @@ impl<'d, P: GracePlan, K: ChainRule, B: Site, H> Chain<'d, P, K, B, H> {
     }
 
     /// Gives the chain back, as dropping it does, and tells its caller: its hold word becomes 0, which `looks` tells.
-    /// The caller hears of all that the writer had seen. It takes no memory and never waits.
+    /// The caller hears of all that the writer had seen.
     pub fn release<W: Caller<B>>(self, caller: &mut W)
         ensures freed { W.looks caller.new ≡ Stored (hold_at B.sizes self.entry.number) 0 ∷ W.looks caller.old }
         ensures heard { IsAfter P.QSBR K.allows (W.seen caller.old) (W.heard caller.old) (W.heard caller.new) × Begins self.entry.seat.me.0.seen (W.heard caller.new) }

@@ -72,7 +72,7 @@ fn cut_right<P: GracePlan, K: ChainRule>(
 
 impl<'d, P: GracePlan, K: ChainRule, B: Site, H> Lent<'d, P, K, B, H> {
     /// Takes the chain's right back from the writer that has it, to which it was lent before all others that this has
-    /// still. This writer has seen then all that that one had. It never waits.
+    /// still. This writer has seen then all that that one had.
     pub fn take_back(self, from: &mut Chain<'_, P, K, B, H>) -> Chain<'d, P, K, B, H>
         requires right { lent_chains from.old.seat.me.0.chains ≡ own_in (lent_chains from.old.seat.me.0.chains) ∷ lent_chains (lent_chains from.old.seat.me.0.chains) }
         requires its { ((own_in (lent_chains from.old.seat.me.0.chains)).chain ≡ self.number) × (length (own_in (lent_chains from.old.seat.me.0.chains)).objects ≡ self.linked) }

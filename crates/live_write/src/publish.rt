@@ -10,6 +10,7 @@ ghost use Rattle.live_words.specs.live_table.Rights.{AreAsKnown, IsFresh, IsList
 ghost use Rattle.live_words.specs.live_table.Steps.{Keeps};
 ghost use Rattle.live_words.specs.live_chains.Chains.{cut_of};
 ghost use Rattle.live_read.specs.Hearing.{IsAfter, OnlyHears, OnlyMakesLast};
+ghost use Rattle.live_write.specs.Calls.{HasLearned};
 ghost use Rattle.live_write.specs.Chains.{MayPublish, MayReserve, Publishes, list_in, push_by, replace_by};
 
 use crate::walk::find;
@@ -194,6 +195,7 @@ pub(crate) fn hear_caller<P: GracePlan, K: ChainRule, B: Site, W: Caller<B>>(
     requires site { (table.now.words.shared.table_id ≡ B.table) × (table.now.words.shared.key ≡ B.sizes) }
     ensures seat { Keeps seat.old seat.new × (seat.new.me.1 ≡ seat.old.me.1) × (seat.new.me.0.sizes ≡ seat.old.me.0.sizes) × IsListed seat.new.me.0 }
     ensures chains { seat.new.me.0.chains ≡ seat.old.me.0.chains }
+    ensures learned { HasLearned seat.old.me.0 seat.new.me.0 }
     ensures told { IsAfter P.QSBR K.allows (W.seen caller.old) (W.heard caller.old) seat.new.me.0.seen × Begins seat.old.me.0.seen seat.new.me.0.seen × Begins seat.old.me.0.heard seat.new.me.0.seen }
     ensures known { AreAsKnown seat.new.me.0.seen seat.new.me.0.chains }
     ensures heard { W.heard caller.new ≡ seat.new.me.0.seen }

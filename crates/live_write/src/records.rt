@@ -13,8 +13,8 @@ use std::marker::PhantomData;
 /// of use as long as the table lives; `discard` frees it.
 #[derive(Drop)]
 pub struct Owned<B: Site> {
-    /// What was seen at the allocation, and the right to the record.
-    pub seat: LiveSeat,
+    // What was seen at the allocation, and the right to the record.
+    pub(crate) seat: LiveSeat,
     pub(crate) cell: usize,
     pub(crate) number: u64,
     pub(crate) site: PhantomData<B>,
@@ -23,7 +23,7 @@ pub struct Owned<B: Site> {
 }
 
 impl<B: Site> Owned<B> {
-    /// Its object, which it keeps once a chain links it. It never waits.
+    /// Its object, which it keeps once a chain links it.
     pub fn object(&self) -> ObjectId
         ensures { result ≡ object_in self.now.seat.me.0.object }
     {
@@ -35,8 +35,8 @@ impl<B: Site> Owned<B> {
 /// dropped, its record stays out of use as long as the table lives.
 #[derive(Drop)]
 pub struct Unlinked<B: Site> {
-    /// What was seen at the cut, and the right to the record.
-    pub seat: LiveSeat,
+    // What was seen at the cut, and the right to the record.
+    pub(crate) seat: LiveSeat,
     pub(crate) cell: usize,
     // The chain that linked it.
     pub(crate) chain: usize,
@@ -63,14 +63,14 @@ impl<B: Site> Unlinked<B> {
         }
     }
 
-    /// The chain that linked it. It never waits.
+    /// The chain that linked it.
     pub fn chain(&self) -> usize
         ensures { result ≡ self.now.chain }
     {
         self.chain
     }
 
-    /// The seat with the right to it, and its record. It never waits.
+    /// The seat with the right to it, and its record.
     pub fn into_parts(self) -> (LiveSeat, usize)
         ensures seat { (result.0 ≡ self.seat) × (result.0.table_id ≡ B.table) × (result.0.me.0.sizes ≡ B.sizes) × (result.0.me.1 ≡ []) }
         ensures right { IsUnlinked result.0.me.0 × (cell_in result.0.me.0.object ≡ result.1) × (result.1 < B.sizes.pool) }
@@ -78,7 +78,7 @@ impl<B: Site> Unlinked<B> {
         (self.seat, self.cell)
     }
 
-    /// Its object, by a load of its record's header, which is kept among the looks of its seat. It never waits.
+    /// Its object, by a load of its record's header, which is kept among the looks of its seat.
     pub fn object<P: GracePlan, K: ChainRule>(&mut self, table: &LiveTable<P, K>) -> ObjectId
         requires { (table.now.words.shared.table_id ≡ B.table) × (table.now.words.shared.key ≡ B.sizes) }
         ensures object { result ≡ object_in self.old.seat.me.0.object }

@@ -15,7 +15,7 @@ const SHORT: Load = Load {
     seconds: None,
 };
 
-/// The counts of a run without a fault that retired so many.
+/// The counts of a run without a fault that retired this many.
 fn without_fault(retired: u64) -> Counts {
     Counts {
         retired,

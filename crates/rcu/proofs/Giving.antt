@@ -1,16 +1,5 @@
 -- What a map's accepted change tells.
-use base.Stored.{Gv}
-use Rattle.std.proofs.Common.{◌%◌, ℕ, Bool, Option, Some, None, [], inl, inr, refl, subst}
-use Rattle.rcu_model.specs.declared.event.ObjectId.{ObjectId}
-use Rattle.rcu_model.proofs.Lemmas.{none_some}
-use Rattle.live_log.specs.Log.{Log, Begins}
-use Rattle.live_log.specs.Tables.{tabled}
-use Rattle.live_log.proofs.Lemmas.{begins_trans}
-use Rattle.rcu_hash.specs.live_read.Hearing.{MakesLast, Stays}
-use Rattle.rcu_hash.specs.live_read.declared.caller.Caller.{Ghosts}
-use Rattle.rcu_hash.proofs.live_read.Lemmas.{stays_makes}
-use Rattle.rcu_hash.specs.rcu_list.Calls.{HandsOver}
-use Rattle.rcu_hash.specs.Publishing.{InsertsThrough, RemovesThrough, ReplacesThrough}
+use Rattle.rcu.proofs.Cited.{Gv, ◌%◌, ℕ, Bool, Option, Some, None, [], inl, inr, refl, subst, ObjectId, none_some, Log, Begins, tabled, begins_trans, MakesLast, Stays, Ghosts, stays_makes, HandsOver, InsertsThrough, RemovesThrough, ReplacesThrough}
 use Rattle.rcu.specs.Keys.{GivesWord}
 use Rattle.rcu.proofs.Putting.{queued_later}
 

@@ -1,10 +1,5 @@
 -- What a caller that calls again and again has heard of.
-use Rattle.std.proofs.Common.{◌≡◌, ◌∙◌, Bool, subst}
-use Rattle.live_log.specs.declared.event.LiveEvent.{LiveEvent}
-use Rattle.live_log.specs.Log.{Log, Begins}
-use Rattle.live_log.proofs.Lemmas.{begins_trans}
-use Rattle.rcu_hash.specs.live_read.Hearing.{IsAfter, Stays}
-use Rattle.rcu_hash.specs.live_read.declared.caller.Caller.{Ghosts}
+use Rattle.rcu.proofs.Cited.{◌≡◌, ◌∙◌, Bool, subst, LiveEvent, Log, Begins, begins_trans, IsAfter, Stays, Ghosts}
 
 -- what comes after a log that the caller heard of comes after all that it knew before
 pub still_after : (qsbr : Bool) (allows : Log → LiveEvent → Type 0) (seen heard was mid new : Log) → was ≡ seen → Begins heard mid → IsAfter qsbr allows was mid new → IsAfter qsbr allows seen heard new

@@ -1,3 +1,4 @@
+mod Cited
 pub mod Giving
 pub mod Hearing
 pub mod Moving

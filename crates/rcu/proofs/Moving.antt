@@ -1,25 +1,7 @@
 -- What a map's tidyings did for a caller that calls again and again.
-use base.Stored.{Gv}
-use denote.RattleType.{RattleType}
-use Rattle.std.proofs.Common.{◌≡◌, ◌++◌, ◌∷◌, ◌∙◌, Bool, List, [], Option, Some, IfSome, ℕ, inl, inr, ap, map, refl, reverse, subst, sym, append_assoc}
-use Rattle.std.proofs.lemmas.List.{reverse-append}
-use Rattle.rcu_model.specs.declared.refusal.Refusal.{Refusal}
-use Rattle.rcu_model.specs.declared.refusal.Refusal.TheVariants.{Busy, FewJobs}
-use Rattle.live_log.specs.Log.{Log, Begins}
-use Rattle.live_log.specs.Tables.{tabled}
-use Rattle.live_log.proofs.Lemmas.{begins_trans}
-use Rattle.rcu_hash.specs.live_rule.declared.view.Look.{Look}
-use Rattle.rcu_hash.specs.live_rule.declared.view.Sizes.{Sizes}
-use Rattle.rcu_hash.specs.live_read.Hearing.{IsAfter, MakesMany, Stays}
-use Rattle.rcu_hash.specs.live_read.declared.caller.Caller.{Ghosts}
-use Rattle.rcu_hash.specs.Calls.{IsGrown, IsNotGrown}
-use Rattle.rcu_hash.specs.Growing.{HasLeft}
-use Rattle.rcu_hash.specs.Tidying.{EndsTidying, FindsEnd, Follow, StopsTidying, callbacks_in, changes_in}
-use Rattle.rcu_hash.specs.Writers.{Each}
-use Rattle.rcu_hash.proofs.live_read.Lemmas.{more_made, none_made}
-use Rattle.rcu_hash.proofs.Lemmas.{callbacks_both, changes_both, follow_both, follow_weaker}
+use Rattle.rcu.proofs.Cited.{Gv, RattleType, ◌≡◌, ◌++◌, ◌∷◌, ◌∙◌, Bool, List, [], Option, Some, IfSome, ℕ, ◌+◌, inl, inr, ⊎_elim, ap, map, refl, reverse, subst, sym, append_assoc, reverse-append, In, Refusal, Busy, FewJobs, Log, Begins, chain_note, tabled, begins_trans, Look, Sizes, IsAfter, MakesMany, Stays, Ghosts, IsGrown, IsNotGrown, HasLeft, TidyEnd, During, EndsTidying, FindsEnd, Follow, IsQueueAmong, IsRefused, LinksStill, StopsTidying, callbacks_in, changes_in, numbers_of, Each, more_made, none_made, callbacks_both, changes_both, follow_both, follow_weaker, during_since, freed_both}
 use Rattle.rcu.specs.Reclaiming.{moved_code}
-use Rattle.rcu.specs.Resizing.{HearsMore, IsNotResized, IsNotTidied, OnlyMoves}
+use Rattle.rcu.specs.Resizing.{HearsMore, IsMapQueue, IsNotResized, IsNotTidied, OnlyMoves}
 use Rattle.rcu.proofs.Hearing.{still_after}
 
 -- what is so of each of two lists is so of both together
@@ -31,6 +13,11 @@ each_both P (x ∷ xs) ys p q = (p.0, each_both P xs ys p.1 q)
 each_behind : {X : Type 0} (P : X → Type 0) (xs ys : List X) → Each P (xs ++ ys) → Each P ys
 each_behind P [] ys p = p
 each_behind P (x ∷ xs) ys p = each_behind P xs ys p.1
+
+-- of numbered ones, one with this number is so
+number_there : (is_so : ℕ × ℕ → Type 0) (cs : List (ℕ × ℕ)) (n : ℕ) → Each is_so cs → In (numbers_of cs) n → (p : ℕ × ℕ) × (p.0 ≡ n) × is_so p
+number_there is_so [] n each here = absurd here
+number_there is_so (p ∷ ps) n each here = ⊎_elim (λ is. (p, is, each.0)) (λ more. number_there is_so ps n each.1 more) here
 
 -- each has the code of the one that they all are
 each_code : {D : Type 0} (code : D → Gv) (m : D) (xs : List D) → Each (λ x. x ≡ m) xs → Each (λ c. c ≡ code m) (map code xs)
@@ -62,16 +49,19 @@ module _ {W S : Type 0} (w : Ghosts W S) (qsbr : Bool) (sizes : Sizes) (d : ℕ)
     follow = ([], refl);
     callbacks = tt;
     made = none_made w a a (refl, refl, λ h. h, refl);
+    freed = λ c none. absurd none;
   }
 
   -- one thing was done after another
   pub moves_on : (a b c : W) → OnlyMoves w qsbr sizes d R a b → OnlyMoves w qsbr sizes d R b c → OnlyMoves w qsbr sizes d R a c
+  unfolding hears_on
   moves_on a b c x y = record {
     hears = hears_on w a b c x.hears y.hears;
     steps = x.steps ++ y.steps;
     follow = follow_both qsbr tabled sizes d (w.seen a) (w.heard a) (w.heard b) (w.heard c) x.steps y.steps x.follow (subst (λ (s : Log). Follow qsbr tabled sizes d s (w.heard b) y.steps (w.heard c)) x.hears.same y.follow);
     callbacks = subst (Each (λ c. c ≡ moved_code R)) (sym (callbacks_both qsbr tabled sizes d (w.seen a) x.steps y.steps)) (each_both _ (callbacks_in x.steps) (callbacks_in y.steps) x.callbacks y.callbacks);
     made = subst (MakesMany w a c) (sym (changes_both qsbr tabled sizes d (w.seen a) x.steps y.steps)) (more_made w a b c (changes_in x.steps) (changes_in y.steps) x.made y.made);
+    freed = freed_both qsbr tabled sizes d (w.seen a) x.steps y.steps x.hears.found y.hears.found x.freed y.freed;
   }
 
   -- a tidying did only that, whatever came of it
@@ -80,8 +70,8 @@ module _ {W S : Type 0} (w : Ghosts W S) (qsbr : Bool) (sizes : Sizes) (d : ℕ)
     hears = record {
       same = u.made.made.0;
       later = later;
-      found = found.0;
-      looks = found.1;
+      found = u.found;
+      looks = u.looks;
       loaded = t.ended.loads_since ++ t.ended.asked ∷ t.earlier;
       loads = t.ended.first_load ∙ sym (append_assoc t.ended.loads_since (t.ended.asked ∷ t.earlier) (w.loads old));
     };
@@ -90,6 +80,7 @@ module _ {W S : Type 0} (w : Ghosts W S) (qsbr : Bool) (sizes : Sizes) (d : ℕ)
     callbacks = subst (λ c. Each (λ x. x ≡ c) (callbacks_in u.steps)) is
         (subst (Each (λ x. x ≡ code m)) (sym u.callbacks) (each_code code m (reverse u.used) (each_reversed _ u.used (each_behind _ left u.used (subst (Each (λ x. x ≡ m)) u.are all)))));
     made = u.made;
+    freed = u.freed;
   }
   tidied_moves code m old new jobs left is all (inr s) later found = record {
     hears = record { same = s.1.0.0; later = later; found = found.0; looks = found.1; loaded = s.2.0; loads = s.2.1 };
@@ -97,6 +88,7 @@ module _ {W S : Type 0} (w : Ghosts W S) (qsbr : Bool) (sizes : Sizes) (d : ℕ)
     follow = later;
     callbacks = tt;
     made = none_made w old new s.1.0;
+    freed = λ c none. absurd none;
   }
 
   -- so did the calls before it and the tidying
@@ -106,24 +98,43 @@ module _ {W S : Type 0} (w : Ghosts W S) (qsbr : Bool) (sizes : Sizes) (d : ℕ)
 module _ {W S : Type 0} (w : Ghosts W S) (qsbr : Bool) (sizes : Sizes) (d : ℕ) (R : RattleType) (a b c : W) (more : HearsMore w a b) where
   -- what was loaded after all that it knew later was loaded after all that it knew before
   end_since : FindsEnd w qsbr tabled b c → FindsEnd w qsbr tabled a c
-  end_since (earlier, once, end) = (
+  end_since (at, earlier, once, low, before, run) = (
+    at,
     earlier ++ more.loaded,
     record {
-      load = once.load ∙ ap (λ ls. w.heard c ∷ ls) (ap (λ ls. earlier ++ ls) more.loads ∙ sym (append_assoc earlier more.loaded (w.loads a)));
-      after = still_after qsbr tabled (w.seen a) (w.heard a) (w.seen b) (w.heard b) (w.heard c) more.same more.later once.after;
+      load = once.load ∙ ap (λ ls. at ∷ ls) (ap (λ ls. earlier ++ ls) more.loads ∙ sym (append_assoc earlier more.loaded (w.loads a)));
+      after = still_after qsbr tabled (w.seen a) (w.heard a) (w.seen b) (w.heard b) at more.same more.later once.after;
     },
-    end,
+    low,
+    before,
+    run,
   )
+
+  queue_since : (q : ℕ) → IsMapQueue w qsbr sizes d R b c q → IsMapQueue w qsbr sizes d R a c q
+  queue_since q (inl own) = inl own
+  queue_since q (inr (n, had, is)) = inr (n, during_since w qsbr tabled a b c (λ log. chain_note n log ≡ d + 1) more.same more.later had, is)
+
+  refused_since : (e : Refusal) → IsRefused w c (IsMapQueue w qsbr sizes d R b c) e → IsRefused w c (IsMapQueue w qsbr sizes d R a c) e
+  refused_since e (inl (is, (q, mine, closed))) = inl (is, (q, queue_since q mine, closed))
+  refused_since e (inr memory) = inr memory
 
   pub untidied_since : (e : Refusal) → IsNotTidied w qsbr sizes d R b c e → IsNotTidied w qsbr sizes d R a c e
   untidied_since e (inl r) = inl (r.0, end_since r.1)
-  untidied_since e (inr r) = inr r
+  untidied_since e (inr r) = inr (refused_since e r)
+
+  -- the queue of a chain that is left is one of the map's
+  map_queue : (chains : List (ℕ × ℕ)) (q : ℕ) → Each (λ p. During w qsbr tabled b c (LinksStill d p)) chains → IsQueueAmong sizes d (numbers_of chains) q → IsMapQueue w qsbr sizes d R b c q
+  map_queue chains q still (inl own) = inl own
+  map_queue chains q still (inr (n, there, is)) =
+      let found = number_there _ chains n still there in let k = found.2 in
+      inr (n, record { at = k.at; after = k.after; before = k.before; so = ap (λ (m : ℕ). chain_note m k.at) (sym (k.so.1 ∙ found.1)) ∙ k.so.0.noted }, is)
 
   -- where a tidying stopped that had callbacks enough, the map is not tidied
-  pub untidied : {D : Type 0} (retired left : ℕ) (jobs : List D) (e : Refusal) → ¬ (e ≡ FewJobs) → StopsTidying w qsbr tabled b c retired left jobs e → IsNotTidied w qsbr sizes d R a c e
-  untidied retired left jobs e enough (some, inl r) = inl (r.0, end_since r.2)
-  untidied retired left jobs e enough (some, inr (inl few)) = absurd (enough few.0)
-  untidied retired left jobs e enough (some, inr (inr r)) = inr r
+  pub untidied : {D : Type 0} (end : TidyEnd D) (e : Refusal) → ¬ (e ≡ FewJobs) → StopsTidying w qsbr tabled b c sizes d end e → IsNotTidied w qsbr sizes d R a c e
+  untidied end e enough (some, (chains, counted, inl r)) = inl (r.0, end_since r.2)
+  untidied end e enough (some, (chains, counted, inr (inl few))) = absurd (enough few.0)
+  untidied end e enough (some, (chains, counted, inr (inr (inl (is, (q, among, closed)))))) = inr (inl (is, (q, queue_since q (map_queue chains q counted.still among), closed)))
+  untidied end e enough (some, (chains, counted, inr (inr (inr memory)))) = inr (inr memory)
 
 -- what is so of what is there
 pub if_is : {A : Type 0} (r : Option A) (x : A) (P : A → Type 0) → r ≡ Some x → IfSome r P → P x
@@ -138,6 +149,7 @@ module _ {W S : Type 0} (w : Ghosts W S) (qsbr : Bool) (sizes : Sizes) (d : ℕ)
     follow = later;
     callbacks = tt;
     made = none_made w a b stays;
+    freed = λ c none. absurd none;
   }
 
   -- it was refused for what an earlier one left

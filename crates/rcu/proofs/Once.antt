@@ -1,14 +1,5 @@
 -- An object is queued once in a log, with one callback.
-use base.Stored.{Coded}
-use Rattle.std.proofs.Common.{Bool, ◌≡◌, ℕ, [], ◌∷◌, inl, inr, refl, sym, ◌∙◌, ap, subst}
-use Rattle.rcu_model.specs.Sets.{In}
-use Rattle.rcu_model.specs.declared.event.ObjectId.{ObjectId}
-use Rattle.rcu_model.proofs.Lemmas.{has_object_in}
-use Rattle.live_log.specs.declared.callback_id.CallbackId.{CallbackId}
-use Rattle.live_log.specs.declared.event.LiveEvent.{LiveEvent}
-use Rattle.live_log.specs.declared.event.LiveEvent.TheVariants.{Open, Close, SeqOdd, SeqEven, Present, ChainNote, CloseQueue, Object}
-use Rattle.live_log.specs.declared.event.ObjectEvent.TheVariants.{Push, Replace, Cut, Retire, Queue, Run}
-use Rattle.live_log.specs.Log.{Log, Has, IsLiveRun, MayFollow, WasQueued, state_of}
+use Rattle.rcu.proofs.Cited.{Coded, Bool, ◌≡◌, ℕ, [], ◌∷◌, inl, inr, refl, sym, ◌∙◌, ap, subst, In, ObjectId, has_object_in, CallbackId, LiveEvent, Open, Close, SeqOdd, SeqEven, Present, ChainNote, CloseQueue, Object, Push, Replace, Cut, Retire, Queue, Run, Log, Has, IsLiveRun, MayFollow, WasQueued, state_of}
 
 queued_in : (log : Log) (o : ObjectId) (q : ℕ) (id : CallbackId) → Has (Object (Queue o q id)) log → In (state_of log).queued o
 queued_in [] o q id h = absurd h

@@ -1,21 +1,5 @@
 -- The first record of a chain, once its writer has published one.
-use base.Stored.{Gv}
-use Rattle.std.proofs.Common.{◌≡◌, ℕ, Bool, List, [], ◌∷◌, length, Option, Some, None, IfNone, IfSome, slice_get, refl, sym, ap, ◌∙◌, subst, inl, arith}
-use Rattle.rcu_model.specs.declared.event.ObjectId.{ObjectId}
-use Rattle.rcu_model.specs.Sets.{first_of, replaced}
-use Rattle.rcu_model.proofs.Lemmas.{at_object_same, some_is, none_some}
-use Rattle.live_log.specs.declared.event.LiveEvent.{LiveEvent}
-use Rattle.live_log.specs.declared.event.LiveEvent.TheVariants.{Object}
-use Rattle.live_log.specs.declared.event.ObjectEvent.TheVariants.{Push, Queue, Replace, Retire}
-use Rattle.live_log.specs.Log.{objects_of, Log, Begins, Has, payload_of, words_in}
-use Rattle.live_log.proofs.Lemmas.{begins_trans, pushed_note, replaced_note}
-use Rattle.rcu_hash.specs.live_rule.declared.view.View.{View}
-use Rattle.rcu_hash.specs.live_read.Hearing.{IsAfter, Stays}
-use Rattle.rcu_hash.specs.live_table.Rights.{AreAsKnown, IsWriter, own_in}
-use Rattle.rcu_hash.specs.live_items.Retiring.{Queues}
-use Rattle.rcu_hash.specs.live_write.Chains.{Publishes, list_in}
-use Rattle.rcu_hash.specs.live_read.declared.caller.Caller.{Ghosts}
-use Rattle.rcu_hash.proofs.live_read.Lemmas.{stays_makes}
+use Rattle.rcu.proofs.Cited.{Gv, ◌≡◌, ℕ, Bool, List, [], ◌∷◌, length, Option, Some, None, IfNone, IfSome, slice_get, refl, sym, ap, ◌∙◌, subst, inl, arith, ObjectId, first_of, replaced, at_object_same, some_is, none_some, LiveEvent, Object, Push, Queue, Replace, Retire, objects_of, Log, Begins, Has, payload_of, words_in, begins_trans, pushed_note, replaced_note, View, IsAfter, Stays, AreAsKnown, IsWriter, own_in, Queues, Publishes, list_in, Ghosts, stays_makes}
 use Rattle.rcu.specs.Slots.{PushesValue, PutsValue, ReplacesValue, any_change, first_in}
 use Rattle.rcu.proofs.Hearing.{still_after}
 

@@ -1,16 +1,5 @@
 -- What a caller has heard of where a call of a table was refused.
-use Rattle.std.proofs.Common.{◌≡◌, ◌⊎◌, ◌++◌, ◌∷◌, [], ◌∙◌, Bool, List, Option, None, Some, IfNone, ℕ, ⊎_elim, ap, append_assoc, inl, inr, refl, subst, sym}
-use Rattle.rcu_model.specs.declared.refusal.Refusal.{Refusal}
-use Rattle.rcu_model.specs.declared.refusal.Refusal.TheVariants.{Exists, Missing}
-use Rattle.live_log.specs.declared.event.LiveEvent.{LiveEvent}
-use Rattle.live_log.specs.Log.{Log, Begins}
-use Rattle.live_log.specs.Tables.{tabled}
-use Rattle.live_log.proofs.Lemmas.{begins_trans}
-use Rattle.rcu_hash.specs.live_rule.declared.view.Look.{Look}
-use Rattle.rcu_hash.specs.live_rule.declared.view.Sizes.{Sizes}
-use Rattle.rcu_hash.specs.live_read.declared.caller.Caller.{Ghosts}
-use Rattle.rcu_hash.specs.live_reclaim.Refusing.{RefusesRetirement}
-use Rattle.rcu_hash.specs.Refusing.{During, RefusesInsertionThrough, RefusesReplacementThrough}
+use Rattle.rcu.proofs.Cited.{◌≡◌, ◌⊎◌, ◌++◌, ◌∷◌, [], ◌∙◌, Bool, List, Option, None, Some, IfNone, ℕ, ⊎_elim, ap, append_assoc, inl, inr, refl, subst, sym, Refusal, Exists, Missing, LiveEvent, Log, Begins, tabled, begins_trans, Look, Sizes, Ghosts, RefusesRetirement, During, RefusesInsertionThrough, RefusesReplacementThrough}
 use Rattle.rcu.specs.Slots.{IsNotPut}
 use Rattle.rcu.specs.Trying.{StaysOn}
 use Rattle.rcu.proofs.Hearing.{Went, stays_on, went_on}

@@ -1,18 +1,6 @@
 -- A seat that owns a reader's slot stands in an open section, where the slot's word is not closed.
-use Rattle.std.proofs.Common.{Bool, ◌≡◌, ℕ, sym, refl, ◌∙◌, subst}
-use mathlib.Core.Option.{Option, none, some}
-use lib.ListN.{get_elem?}
-use Rattle.atomic_table.specs.Table.{State}
-use Rattle.live_log.specs.declared.event.LiveEvent.{LiveEvent}
-use Rattle.live_log.specs.Log.{Log, IsOpenSection, open_of}
-use Rattle.live_log.proofs.Lemmas.{is_open}
-use Rattle.rcu_hash.specs.live_rule.declared.rights.SlotRight.{SlotRight}
-use Rattle.rcu_hash.specs.live_rule.declared.view.Sizes.{Sizes}
-use Rattle.rcu_hash.specs.live_rule.declared.view.View.{View}
-use Rattle.rcu_hash.specs.live_rule.Readers.{Fits, IsClosed}
-use Rattle.rcu_hash.specs.live_rule.Rights.{ClaimsSlot, KnowsSlot, slot}
-use Rattle.rcu_hash.specs.live_rule.Rule.{KeepsRule}
-use Rattle.rcu_hash.specs.live_table.Rights.{IsOwner, count_in, word_in}
+use Rattle.rcu.proofs.Cited.{Bool, ◌≡◌, ℕ, sym, refl, ◌∙◌, subst, none, some, get_elem?, State, LiveEvent, Log, IsOpenSection, open_of, is_open, SlotRight, Sizes, View, Fits, IsClosed, ClaimsSlot, KnowsSlot, slot, KeepsRule, IsOwner, count_in, word_in}
+use mathlib.Core.Option.{Option}
 
 open_fits : (qsbr : Bool) (w : ℕ) (o : Option (ℕ × ℕ)) → ¬ IsClosed qsbr w → Fits qsbr w o → (x : ℕ × ℕ) × (o ≡ some x)
 open_fits qsbr w none shut fits = absurd (shut fits)

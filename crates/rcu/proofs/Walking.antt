@@ -1,6 +1,5 @@
 -- What is so of each call with an entry is so of all that a walk makes.
-use Rattle.std.proofs.Common.{◌≡◌, ◌∙◌, List, [], ◌∷◌, sym, ap, subst}
-use Rattle.std.specs.List.{FoldsTo}
+use Rattle.rcu.proofs.Cited.{◌≡◌, ◌∙◌, List, [], ◌∷◌, sym, ap, subst, FoldsTo}
 
 -- by what is called, and by a name that each call leaves as it was
 pub folds_through : {F V X N : Type 0} (step : F → X → F → Type 0) (called : V → X → V → Type 0) (of : F → V) (name : F → N)

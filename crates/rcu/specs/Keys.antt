@@ -1,4 +1,4 @@
--- What the calls of a map tell, by the chain of its directory in a domain of so many chains.
+-- What the calls of a map tell, by the chain of its directory in a domain of this many chains.
 use base.Stored.{Gv}
 use denote.RattleType.{RattleType}
 use Rattle.gp_memb.specs.declared.plan.GracePlan as plan
@@ -55,7 +55,7 @@ Unlinks event left = ((c : ℕ) × (event ≡ Object (Cut c left))) ⊎ ((c : �
 -- Between these two moments of a caller the key has this word from the last event of a log on, or none, and each other
 -- key what it had before the event. That came after all that the caller had seen and heard of, the caller has heard of
 -- it, and no other change of a chain was made for it. A record that had the key's value before left its chain by the
--- event. It was retired then, with the callback of this code, in one of so many queues.
+-- event. It was retired then, with the callback of this code, in one of this many queues.
 pub record GivesWord {W S : Type 0} (w : Ghosts W S) (qsbr : Bool) (chains queues d : ℕ) (old new : W) (key : ℕ) (has : Option ℕ) (callback : Gv) : Type 0 where
   pub published : Log
   pub chain : ℕ

@@ -13,6 +13,12 @@ pub use Rattle.rcu_hash.specs.live_read.Hearing
 pub use Rattle.rcu_hash.specs.live_read.Holding
 pub use Rattle.rcu_hash.specs.live_read.Reads
 pub use Rattle.rcu_hash.specs.live_read.Sections
+pub use Rattle.rcu_hash.specs.domain.Barriers
 pub use Rattle.rcu_hash.specs.domain.Naming
+pub use Rattle.rcu_hash.specs.domain.Retiring
 pub use Rattle.rcu_hash.specs.domain.Waiting
+pub use Rattle.rcu_hash.specs.domain.Working
+pub use Rattle.rcu_hash.specs.live_reclaim as live_reclaim
+pub use Rattle.rcu_hash.specs.live_write.Calls
 pub use Rattle.rcu_hash.specs.rcu_list.Maps
+pub use Rattle.rcu_hash.specs.Directories

@@ -1,10 +1,10 @@
 -- What a map tells of its chains, by the chain of its directory: that it grew, or why it was not tidied or resized.
 use denote.RattleType.{RattleType}
-use Rattle.std.specs.Prelude.{◌≡◌, ◌⊎◌, ◌++◌, ℕ, Bool, List}
+use Rattle.std.specs.Prelude.{◌≡◌, ◌⊎◌, ◌+◌, ◌%◌, ◌++◌, ℕ, Bool, List}
 use Rattle.rcu_model.specs.declared.refusal.Refusal.{Refusal}
 use Rattle.rcu_model.specs.declared.refusal.Refusal.TheVariants.{Busy, Exhausted}
 use Rattle.live_log.specs.declared.event.LiveEvent.{LiveEvent}
-use Rattle.live_log.specs.Log.{Log, Begins}
+use Rattle.live_log.specs.Log.{Log, Begins, chain_note}
 use Rattle.live_log.specs.Tables.{tabled}
 use Rattle.rcu_hash.specs.live_read.Hearing.{MakesMany, Stays}
 use Rattle.rcu_hash.specs.live_read.declared.caller.Caller.{Ghosts}
@@ -14,7 +14,7 @@ use Rattle.rcu_hash.specs.Calls.{IsGrown, IsNotGrown}
 use Rattle.rcu_hash.specs.Freeing.{KeepsNone}
 use Rattle.rcu_hash.specs.Growing.{Grows, HasLeft}
 use Rattle.rcu_hash.specs.Refusing.{During}
-use Rattle.rcu_hash.specs.Tidying.{FindsEnd, Follow, IsRefused, Kind, callbacks_in, changes_in}
+use Rattle.rcu_hash.specs.Tidying.{AreFreed, FindsEnd, Follow, IsRefused, Kind, callbacks_in, changes_in, cleared_in}
 use Rattle.rcu_hash.specs.Writers.{Each}
 use Rattle.rcu.specs.Reclaiming.{moved_code}
 
@@ -42,17 +42,24 @@ module _ {W S : Type 0} (w : Ghosts W S) (old new : W) where
 -- by the sizes of the domain, and the type of the map's deleter
 module _ {W S : Type 0} (w : Ghosts W S) (qsbr : Bool) (sizes : Sizes) (d : ℕ) (R : RattleType) (old new : W) where
   -- No change was made for the caller but the cuts and notes of tidyings. Each step of these left the map as it was, and
-  -- each object that was cut is retired with the callback that does nothing.
+  -- each object that was cut is retired with the callback that does nothing. Each chain that lost its note was given
+  -- back.
   pub record OnlyMoves : Type 0 where
     pub hears : HearsMore w old new
     pub steps : List (Kind × Log)
     pub follow : Follow qsbr tabled sizes d (w.seen old) (w.heard old) steps (w.heard new)
     pub callbacks : Each (λ c. c ≡ moved_code R) (callbacks_in steps)
     pub made : MakesMany w old new (changes_in steps)
+    pub freed : AreFreed sizes (cleared_in steps) hears.found
 
-  -- The map is not tidied: the sequence number was found at its end, or a queue was closed. Or memory is named.
+  -- one of the map's queues: that of its directory's chain, or of a chain that had its note in a log of the call
+  abbrev pub IsMapQueue : ℕ → Type 0
+  IsMapQueue q = (q ≡ d % sizes.queues) ⊎ ((c : ℕ) × During w qsbr tabled old new (λ log. chain_note c log ≡ d + 1) × (q ≡ c % sizes.queues))
+
+  -- The map is not tidied: the sequence number was found at its end, or one of its queues was closed. Or memory is
+  -- named.
   abbrev pub IsNotTidied : Refusal → Type 0
-  IsNotTidied e = ((e ≡ Exhausted) × FindsEnd w qsbr tabled old new) ⊎ IsRefused w old new e
+  IsNotTidied e = ((e ≡ Exhausted) × FindsEnd w qsbr tabled old new) ⊎ IsRefused w new IsMapQueue e
 
 -- and for this number of chains from the first one on
 module _ {W S : Type 0} (w : Ghosts W S) (qsbr : Bool) (sizes : Sizes) (d : ℕ) (R : RattleType) (old new : W) (first buckets : ℕ) where

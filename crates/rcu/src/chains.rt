@@ -31,7 +31,7 @@ impl Chains {
         }
     }
 
-    /// The first one of a row of so many chains, which come next.
+    /// The first one of a row of this many chains, which come next.
     ///
     /// Refused with `NoPlace` exactly where fewer are left, and then none is given out.
     pub fn take(&mut self, count: usize) -> Result<usize, Refusal>

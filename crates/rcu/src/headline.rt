@@ -31,9 +31,10 @@ pub fn objects_are_queued_with_one_deleter<P: GracePlan, K: ChainRule, D: Delete
     ensures { (log : Log) (o : ObjectId) → IsLiveRun P.QSBR K.allows log → HasOneDeleter D.row o log }
 {}
 
-/// The caller hears of the log of all that the domain's threads have done until now, by one load. It begins with all
-/// that the caller had seen and heard of, and keeps the headline's promise: in it an object's callback runs at most
-/// once, and only after every section that was open at its retirement has ended. It never waits and takes no memory.
+/// The caller hears of a log of the domain's threads, by one load. It begins with all that the caller had seen and heard
+/// of, and keeps the headline's promise: in it an object's callback runs at most once, and only after every section that
+/// was open at its retirement has ended. That it is the whole log of the load's moment no clause says. It never waits
+/// and takes no memory.
 pub fn hear<P: GracePlan + Drop, K: ChainRule, B: Site, D: Deleter, W: Caller<B>>(
     domain: &Domain<P, K, B, D>,
     caller: &mut W,

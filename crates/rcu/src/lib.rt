@@ -1,6 +1,7 @@
 #![tactic(auto)]
 //! The library over live threads, as a program uses it. A program's line in `crates.txt` names this crate alone, and
-//! none of those below it. The general-purpose flavour `Memb` has the steps of liburcu's mb, and not those of its memb.
+//! none of those below it. The general-purpose flavour `Memb` has the steps of liburcu's mb, and not the steps of its
+//! memb. A call waits only where it takes a runtime `rt`, and takes memory only where it can be refused with `Memory`.
 
 mod callbacks;
 mod chains;
@@ -9,6 +10,7 @@ mod headline;
 mod map;
 mod pending;
 mod program;
+mod reading;
 mod reclaim;
 mod slot;
 mod threads;
@@ -27,11 +29,12 @@ pub use pending::{Asked, Heard, Pending, PendingOf};
 pub use program::{Program, Threaded};
 pub use rcu_hash::{
     AnyChain, BarrierMark, Callback, Caller, Chain, ChainRule, Counts, Deleter, Domain, Finished,
-    Handle, Held, Keyed, ListView, LiveConfig as Config, LiveCookie as Cookie, Opened, Owned,
-    RcuHash, RcuList, Reader, Ripe, Section, Site, Stop, TableView, Tabled, Ticket, TidyEnd,
-    Unlinked, WorkerEnd,
+    Handle, Held, Item, Job, Keyed, Lent, ListView, LiveConfig as Config, LiveCookie as Cookie,
+    MapRule, Opened, Owned, RcuHash, RcuList, Reader, Ripe, Section, Site, Stop, TableView, Tabled,
+    Ticket, TidyEnd, Unlinked, WorkerEnd,
 };
 pub use rcu_model::{ObjectId, Refusal};
+pub use reading::{Reading, with_reader};
 pub use reclaim::Reclaim;
 pub use slot::Slot;
 pub use threads::{Ended, with_threads};

@@ -92,9 +92,8 @@ impl<'d, P: GracePlan + Drop, B: Site, F: Deleter + Copy, T: Word + Copy + Drop>
     }
 
     /// The value of a key, or none: what the key has at some moment of the call. So a key that is there all along is
-    /// found, also while its value is replaced, and while the map grows. It never waits and takes no memory.
+    /// found, also while its value is replaced, and while the map grows.
     pub fn get(&self, section: &mut Section<'_, P, Tabled, B>, key: u64) -> Option<T>
-        requires { 0 < section.old.reader.now.core.depth }
         ensures reader { section.new.reader.ghost_name ≡ section.old.reader.ghost_name }
         ensures looked { Looks P.QSBR tabled section.old.reader.now.core section.new.reader.now.core }
         ensures found { GetsValue T.packed B.sizes.chains self.now.table.directory section.old.reader.now.core section.new.reader.now.core key result }
@@ -167,9 +166,8 @@ impl<'d, P: GracePlan + Drop, B: Site, F: Deleter + Copy, T: Word + Copy + Drop>
     /// key that is there from the call to the return is met exactly once, also while its value is replaced or the map
     /// grows. One that never is there is not met. Each value is one that its key had meanwhile.
     ///
-    /// It returns where each call does. It never waits and takes no memory.
+    /// It returns where each call does.
     pub fn for_each<V: FnMut(u64, T)>(&self, section: &mut Section<'_, P, Tabled, B>, visit: &mut V)
-        requires open_section { 0 < section.old.reader.now.core.depth }
         requires callable { V.IsAlwaysCallable visit.old }
         ensures reader { section.new.reader.ghost_name ≡ section.old.reader.ghost_name }
         ensures looked { Looks P.QSBR tabled section.old.reader.now.core section.new.reader.now.core }

@@ -49,8 +49,7 @@ pub struct PendingOf<C: Asked, W: Heard, T> {
 pub type Pending<B, T> = PendingOf<LiveCookie, Handle<B>, T>;
 
 impl<B: Site, T: Drop> PendingOf<LiveCookie, Handle<B>, T> {
-    /// The value, after all that the caller had seen and heard of, liburcu's `start_poll_synchronize_rcu`. It never
-    /// waits and takes no memory.
+    /// The value, after all that the caller had seen and heard of, liburcu's `start_poll_synchronize_rcu`.
     ///
     /// Refused with `Exhausted` exactly where the sequence number is at or above 2^62; then the value comes back.
     pub fn new<P: GracePlan + Drop, K: ChainRule, D: Deleter, W: Caller<B>>(
@@ -76,9 +75,9 @@ impl<B: Site, T: Drop> PendingOf<LiveCookie, Handle<B>, T> {
         }
     }
 
-    /// The value, where a grace period has passed: each section that was open at its making has ended in what the caller
-    /// hears of; liburcu's `poll_state_synchronize_rcu`. Else it comes back as it was. It never waits and takes no
-    /// memory, and sets nobody to work: a worker, or `Domain::synchronize`, makes grace periods pass.
+    /// The value, where a grace period has passed: each section that was open at its making has ended in what the
+    /// caller hears of; liburcu's `poll_state_synchronize_rcu`. Else it comes back as it was. It sets nobody to work: a
+    /// worker, or `Domain::synchronize`, makes grace periods pass.
     pub fn open<P: GracePlan + Drop, K: ChainRule, D: Deleter, W: Caller<B>>(
         self,
         domain: &Domain<P, K, B, D>,

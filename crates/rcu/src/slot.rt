@@ -27,8 +27,8 @@ pub struct Slot<'d, P: GracePlan, B: Site, D: Drop, T: Words> {
 }
 
 impl<'d, P: GracePlan + Drop, B: Site, D: Deleter, T: Words + Copy + Drop> Slot<'d, P, B, D, T> {
-    /// A slot over a chain of the domain. Readers find this value until another is put in its place; so it has no record,
-    /// and none is retired for it. Threads may each make the slot anew, with the same value. It never waits.
+    /// A slot over a chain of the domain. Readers find this value until another is put in its place; so it has no
+    /// record, and none is retired for it. Threads may each make the slot anew, with the same value.
     ///
     /// Refused with `NoPlace` exactly where there is no such chain.
     pub fn new(
@@ -50,9 +50,8 @@ impl<'d, P: GracePlan + Drop, B: Site, D: Deleter, T: Words + Copy + Drop> Slot<
     }
 
     /// The value. It is what the slot has at some moment of the call, after all that the reader had seen and heard of;
-    /// so no older one is found after a newer one. It never waits and takes no memory.
+    /// so no older one is found after a newer one.
     pub fn read(&self, section: &mut Section<'_, P, AnyChain, B>) -> T
-        requires { 0 < section.old.reader.now.core.depth }
         ensures reader { section.new.reader.ghost_name ≡ section.old.reader.ghost_name }
         ensures looked { Looks P.QSBR any_change section.old.reader.now.core section.new.reader.now.core }
         ensures found { FindsValue P.QSBR T.packed self.now.chain self.now.first section.old.reader.now.core section.new.reader.now.core result }

@@ -12,8 +12,8 @@ use rcu_model::Refusal;
 use std::sync::Wait;
 
 /// A record with these four words, as by `Domain::alloc`, which is tried again while the pool is full. So a worker, or
-/// another thread, has to free one meanwhile, and the caller has no section or lock open. It waits for ever where nobody
-/// does, or where object numbers are used up. It takes no memory.
+/// another thread, has to free one meanwhile, and the caller has no section or lock open. It waits for ever where
+/// nobody does, or where object numbers are used up.
 pub fn alloc_when_free<
     P: GracePlan + Drop,
     K: ChainRule,

@@ -1,30 +1,5 @@
 -- What copies of keys tell, on their way and once each one is in its chain.
-use Rattle.std.proofs.Common.{◌≡◌, ◌≢◌, ◌⊎◌, ℕ, zero, suc, ◌+◌, ◌%◌, ◌<◌, ◌==◌, Bool, true, false, if◌then◌else◌, List, [], ◌∷◌, ◌++◌, length, map, take, set, append_assoc, Option, Some, None, slice_get, slice_index_or, refl, sym, ap, ◌∙◌, subst, inl, inr, ⊎_elim, arith, eq-eqb, ne_eqb}
-use mathlib.Core.Logic.{dite}
-use native.Mathlib.Decide.{ℕ_discrete}
-use Rattle.atomic_table.specs.Table.{Me}
-use Rattle.rcu_model.specs.declared.event.ObjectId.{ObjectId}
-use Rattle.rcu_model.specs.Sets.{In}
-use Rattle.rcu_model.proofs.Lemmas.{at_object_same, in_left, none_some}
-use Rattle.live_log.specs.Keys.{key_of, rank_of, Falls}
-use Rattle.live_log.specs.Log.{Log, Begins, IsLiveRun, record_of, payload_of, words_in}
-use Rattle.live_log.specs.Maps.{IsUnnoted}
-use Rattle.live_log.specs.Tables.{tabled}
-use Rattle.live_log.proofs.Lemmas.{begins_trans, chain_used, note_stays, run_of, tabled_maps}
-use Rattle.rcu_list.specs.live_rule.Seats.{lent_chains}
-use Rattle.rcu_list.specs.live_rule.declared.rights.ChainRight.{ChainRight}
-use Rattle.rcu_list.specs.live_rule.declared.view.Look.{Look}
-use Rattle.rcu_list.specs.live_rule.declared.view.Sizes.{Sizes}
-use Rattle.rcu_list.specs.live_rule.declared.view.View.{View}
-use Rattle.rcu_list.specs.live_table.Rights.{IsListed, IsWriter, cell_in, object_in, own_in, payload_in}
-use Rattle.rcu_list.specs.live_table.Steps.{Went}
-use Rattle.rcu_list.specs.live_write.Chains.{MayPublish, Publishes, list_in, push_by}
-use Rattle.rcu_list.specs.live_write.Searching.{AreTaken, GetsNoRecord, IsUsedUp}
-use Rattle.rcu_list.proofs.live_write.Lemmas.{index_has, went_both}
-use Rattle.rcu_list.specs.Maps.{value_in, value_of, words_of}
-use Rattle.rcu_list.proofs.Lemmas.{comes_above, keys_pushed, note_walked, same_own, value_same}
-use Rattle.rcu_hash.specs.Copies.{AreApart, AreRanked, value_among}
-use Rattle.rcu_hash.specs.Writers.{Each, HasKeysIn, HasNoNote, IsAlone, IsEmpty, value_at}
+use Rattle.rcu_hash.proofs.Cited.Words.{◌≡◌, ◌≢◌, ◌⊎◌, ℕ, zero, suc, ◌+◌, ◌%◌, ◌<◌, ◌==◌, Bool, true, false, if◌then◌else◌, List, [], ◌∷◌, ◌++◌, length, map, take, set, append_assoc, Option, Some, None, slice_get, slice_index_or, refl, sym, ap, ◌∙◌, subst, inl, inr, ⊎_elim, arith, eq-eqb, ne_eqb, dite, ℕ_discrete, Me, ObjectId, In, at_object_same, in_left, none_some, key_of, rank_of, Falls, Log, Begins, IsLiveRun, record_of, payload_of, words_in, IsUnnoted, tabled, begins_trans, chain_used, note_stays, run_of, tabled_maps, lent_chains, ChainRight, Look, Sizes, View, IsListed, IsWriter, cell_in, object_in, own_in, payload_in, Went, MayPublish, Publishes, list_in, push_by, AreTaken, GetsNoRecord, IsUsedUp, index_has, went_both, value_in, value_of, words_of, comes_above, keys_pushed, note_walked, same_own, value_same, AreApart, AreRanked, value_among, Each, HasKeysIn, HasNoNote, IsAlone, IsEmpty, value_at, slice_get_within}
 
 -- the first of two answers, if there is one
 abbrev pub or_else : Option ℕ → Option ℕ → Option ℕ
@@ -44,9 +19,9 @@ pub among_both : (es fs : List (ℕ × ℕ)) (key : ℕ) → value_among (es ++ 
 among_both [] fs key = refl
 among_both (e ∷ es) fs key = ap (λ (x : Option ℕ). if e.0 == key then Some e.1 else x) (among_both es fs key) ∙ if_first (e.0 == key) e.1 (value_among es key) (value_among fs key)
 
-pub in_both : (note : ObjectId → ℕ × List ℕ) (os ps : List ObjectId) (key : ℕ) → value_in note (os ++ ps) key ≡ or_else (value_in note os key) (value_in note ps key)
-in_both note [] ps key = refl
-in_both note (o ∷ os) ps key = ap (λ (x : Option ℕ). if key_of (note o) == key then Some (value_of (note o)) else x) (in_both note os ps key) ∙ if_first (key_of (note o) == key) (value_of (note o)) (value_in note os key) (value_in note ps key)
+pub value_both : (note : ObjectId → ℕ × List ℕ) (os ps : List ObjectId) (key : ℕ) → value_in note (os ++ ps) key ≡ or_else (value_in note os key) (value_in note ps key)
+value_both note [] ps key = refl
+value_both note (o ∷ os) ps key = ap (λ (x : Option ℕ). if key_of (note o) == key then Some (value_of (note o)) else x) (value_both note os ps key) ∙ if_first (key_of (note o) == key) (value_of (note o)) (value_in note os key) (value_in note ps key)
 
 -- what a test for a key's first place gave
 if_none : (b : Bool) (x : ℕ) (y : Option ℕ) → (if b then Some x else y) ≡ None → (b ≡ false) × (y ≡ None)
@@ -109,24 +84,13 @@ taken_after (y ∷ ys) (suc index) x at = ap (λ zs. y ∷ zs) (taken_after ys i
 pub next_taken : {X : Type 0} (xs : List X) (index : ℕ) (x : X) → slice_get xs index ≡ Some x → take (index + 1) xs ≡ take index xs ++ x ∷ []
 next_taken xs index x at = let next : suc index ≡ index + 1 = omega arith in subst (λ n. take n xs ≡ take index xs ++ x ∷ []) next (taken_after xs index x at)
 
-pub taken_in : {X : Type 0} (xs : List X) (n : ℕ) (x : X) → In (take n xs) x → In xs x
-taken_in [] zero x h = h
-taken_in [] (suc n) x h = h
-taken_in (y ∷ ys) zero x h = absurd h
-taken_in (y ∷ ys) (suc n) x h = ⊎_elim (λ (e : y ≡ x). inl e) (λ (k : In (take n ys) x). inr (taken_in ys n x k)) h
-
 -- a key is not among those of the objects before the one that has it
 pub none_before : (note : ObjectId → ℕ × List ℕ) (os : List ObjectId) (index : ℕ) (o : ObjectId) → Falls note os → slice_get os index ≡ Some o → value_in note (take index os) (key_of (note o)) ≡ None
 none_before note [] index o falls at = absurd (none_some o at)
 none_before note (x ∷ xs) zero o falls at = refl
 none_before note (x ∷ xs) (suc index) o falls at =
-    ap (λ (b : Bool). if b then Some (value_of (note x)) else value_in note (take index xs) (key_of (note o))) (ne_eqb (key_of (note x)) (key_of (note o)) (λ same. (falls.0 o (found xs index o at)).0 (sym same)))
+    ap (λ (b : Bool). if b then Some (value_of (note x)) else value_in note (take index xs) (key_of (note o))) (ne_eqb (key_of (note x)) (key_of (note o)) (λ same. (falls.0 o (index_has xs index o at)).0 (sym same)))
     ∙ none_before note xs index o falls.1 at
-  where
-    found : (ys : List ObjectId) (k : ℕ) (p : ObjectId) → slice_get ys k ≡ Some p → In ys p
-    found [] k p at = absurd (none_some p at)
-    found (y ∷ ys) zero p at = inl cc
-    found (y ∷ ys) (suc k) p at = inr (found ys k p at)
 
 -- what is so of each one
 pub each_at : {X : Type 0} (is_so : X → Type 0) (xs : List X) (index : ℕ) (x : X) → Each is_so xs → slice_get xs index ≡ Some x → is_so x
@@ -139,10 +103,6 @@ each_set is_so [] zero x each one = tt
 each_set is_so [] (suc index) x each one = tt
 each_set is_so (y ∷ ys) zero x each one = (one, each.1)
 each_set is_so (y ∷ ys) (suc index) x each one = (each.0, each_set is_so ys index x each.1 one)
-
-pub each_weaker : {X : Type 0} (is_so was_so : X → Type 0) (xs : List X) → ((x : X) → was_so x → is_so x) → Each was_so xs → Each is_so xs
-each_weaker is_so was_so [] weaker each = tt
-each_weaker is_so was_so (x ∷ xs) weaker each = (weaker x each.0, each_weaker is_so was_so xs weaker each.1)
 
 pub get_set_same : {X : Type 0} (xs : List X) (index : ℕ) (x : X) → index < length xs → slice_get (set xs index x) index ≡ Some x
 get_set_same [] index x low = absurd (omega arith)
@@ -173,9 +133,6 @@ module _ (note : ObjectId → ℕ × List ℕ) (os : List ObjectId) (buckets num
   in_other : (key : ℕ) (x y z : Option ℕ) → key % buckets ≢ number → z ≡ (if key % buckets == number then x else y) → z ≡ y
   in_other key x y z is e = e ∙ ap (λ (b : Bool). if b then x else y) (ne_eqb (key % buckets) number is)
 
-  pub copied_none : ((key : ℕ) → key % buckets ≡ number → value_among before key ≡ None) → AreApart before → IsCopied 0 before
-  copied_none others apart = (λ key. either key None (value_among before key) (value_among before key) (others key) (λ is. refl), apart)
-
   module _ (index : ℕ) (es : List (ℕ × ℕ)) (o : ObjectId) (at : slice_get os index ≡ Some o) (copied : IsCopied index es) where
     abbrev key_at : ℕ
     key_at = key_of (note o)
@@ -184,7 +141,7 @@ module _ (note : ObjectId → ℕ × List ℕ) (os : List ObjectId) (buckets num
     entry = (key_at, value_of (note o))
 
     one_more : (key : ℕ) → value_in note (take (index + 1) os) key ≡ or_else (value_in note (take index os) key) (value_among (entry ∷ []) key)
-    one_more key = ap (λ (l : List ObjectId). value_in note l key) (next_taken os index o at) ∙ in_both note (take index os) (o ∷ []) key
+    one_more key = ap (λ (l : List ObjectId). value_in note l key) (next_taken os index o at) ∙ value_both note (take index os) (o ∷ []) key
 
     pub copied_skip : key_at % buckets ≢ number → IsCopied (index + 1) es
     copied_skip apart = (
@@ -211,18 +168,13 @@ module _ {X : Type 0} (value : Option X → ℕ → Option ℕ) (buckets : ℕ) 
       ((key : ℕ) → value (slice_get vs (key % buckets)) key ≡ value_among done key) →
       (key : ℕ) → value (slice_get (set vs (e.0 % buckets) w) (key % buckets)) key ≡ value_among (done ++ e ∷ []) key
   filled_more e v w at none first filled key =
-      let here : slice_get (set vs (e.0 % buckets) w) (e.0 % buckets) ≡ Some w = get_set_same vs (e.0 % buckets) w (get_low vs (e.0 % buckets) v at) in
+      let here : slice_get (set vs (e.0 % buckets) w) (e.0 % buckets) ≡ Some w = get_set_same vs (e.0 % buckets) w (slice_get_within vs (e.0 % buckets) v at) in
       dite (ℕ_discrete e.0 key)
       (λ is. ap (λ (n : ℕ). value (slice_get (set vs (e.0 % buckets) w) (n % buckets)) key) (sym is)
       ∙ (ap (λ (x : Option X). value x key) here ∙ (first key ∙ (ap (λ (b : Bool). if b then Some e.1 else value (Some v) key) (eq-eqb e.0 key is)
       ∙ sym (among_both done (e ∷ []) key ∙ (ap (λ (x : Option ℕ). or_else x (value_among (e ∷ []) key)) (ap (value_among done) (sym is) ∙ none) ∙ ap (λ (b : Bool). if b then Some e.1 else None) (eq-eqb e.0 key is)))))))
       (λ other. still here other ∙ (filled key ∙ sym (among_both done (e ∷ []) key ∙ (ap (or_else (value_among done key)) (one_among e key other) ∙ or_none (value_among done key)))))
     where
-      get_low : (xs : List X) (k : ℕ) (x : X) → slice_get xs k ≡ Some x → k < length xs
-      get_low [] k x at = absurd (none_some x at)
-      get_low (y ∷ ys) zero x at = omega arith
-      get_low (y ∷ ys) (suc k) x at = let low = get_low ys k x at in omega arith
-
       still : slice_get (set vs (e.0 % buckets) w) (e.0 % buckets) ≡ Some w → e.0 ≢ key → value (slice_get (set vs (e.0 % buckets) w) (key % buckets)) key ≡ value (slice_get vs (key % buckets)) key
       still here other = dite (ℕ_discrete (key % buckets) (e.0 % buckets))
           (λ same. ap (λ (n : ℕ). value (slice_get (set vs (e.0 % buckets) w) n) key) same

@@ -1,21 +1,6 @@
 -- A bucket to which a directory led answers for the table: while the directory is linked, and afterwards by what the
 -- table had when another one took its place, since the bucket stays as long as a section of then is open.
-use Rattle.std.proofs.Common.{Bool, ◌≡◌, ℕ, ◌<◌, ◌&&◌, List, [], ◌∷◌, ◌++◌, append_assoc, Some, None, cond, true, false, refl, sym, ap, ◌∙◌, subst, ⊎_elim, arith}
-use Rattle.std.proofs.lemmas.Bool.{eqb-true, ltb-true}
-use Rattle.std.proofs.lemmas.Nat.{mod_below}
-use mathlib.Core.Option.{some}
-use Rattle.rcu_model.specs.declared.event.ObjectId.{ObjectId}
-use Rattle.rcu_model.specs.Sets.{In, first_of}
-use Rattle.rcu_model.proofs.Lemmas.{first_has}
-use Rattle.live_log.specs.declared.event.LiveEvent.{LiveEvent}
-use Rattle.live_log.specs.declared.event.LiveEvent.TheVariants.{Close, Object}
-use Rattle.live_log.specs.declared.event.ObjectEvent.TheVariants.{Replace}
-use Rattle.live_log.specs.Log.{Log, Begins, Has, IsLiveRun, record_of, open_of, state_of}
-use Rattle.live_log.specs.Tables.{IsDirectory, IsReplaced, Names, kind_of, tabled}
-use Rattle.live_log.proofs.Lemmas.{begins_trans, chain_used, directory_alone, directory_there, has_later, left_stays, linked_or_replaced, note_stays, run_of, still}
-use Rattle.rcu_list.specs.Maps.{map_of, value_in}
-use Rattle.rcu_list.proofs.Lemmas.{value_same}
-use Rattle.rcu_hash.specs.Directories.{AnswersLinked, AnswersThrough, bucket_in, buckets_in, directed_map, leads, value_through}
+use Rattle.rcu_hash.proofs.Cited.Words.{Bool, ◌≡◌, ℕ, ◌<◌, ◌&&◌, List, [], ◌∷◌, ◌++◌, append_assoc, Some, None, cond, true, false, refl, sym, ap, ◌∙◌, subst, ⊎_elim, arith, eqb-true, ltb-true, mod_below, some, ObjectId, In, first_of, first_has, LiveEvent, Close, Object, Replace, Log, Begins, Has, IsLiveRun, record_of, open_of, state_of, IsDirectory, IsReplaced, Names, kind_of, tabled, begins_trans, chain_used, directory_alone, directory_there, has_later, left_stays, linked_or_replaced, note_stays, run_of, still, map_of, value_in, value_same, AnswersLinked, AnswersThrough, bucket_in, buckets_in, directed_map, leads, value_through}
 
 -- both of two facts
 pub both : (a b : Bool) → (a && b) ≡ true → (a ≡ true) × (b ≡ true)
@@ -38,7 +23,7 @@ module _ (chains key : ℕ) (x : ℕ × List ℕ) (led : leads chains x key ≡ 
 
 module _ (qsbr : Bool) where
   -- of two logs in which a chain has the same objects
-  map_same : (old log : Log) (c key : ℕ) → Begins old log → IsLiveRun qsbr tabled log → (state_of log).chain c ≡ (state_of old).chain c → map_of log c key ≡ map_of old c key
+  pub map_same : (old log : Log) (c key : ℕ) → Begins old log → IsLiveRun qsbr tabled log → (state_of log).chain c ≡ (state_of old).chain c → map_of log c key ≡ map_of old c key
   map_same old log c key b run same = ap (λ (os : List ObjectId). value_in (record_of log) os key) same
       ∙ value_same (record_of old) (record_of log) ((state_of old).chain c) key (λ o h. note_stays qsbr tabled old log o b run (chain_used qsbr tabled old c o (run_of qsbr tabled old log b run) h))
 

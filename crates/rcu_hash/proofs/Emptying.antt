@@ -1,43 +1,9 @@
 -- What an earlier directory left is free once a grace period has been waited for, and no part of the table's map.
-use base.Stored.{Gv}
-use Rattle.std.proofs.Common.{Bool, ◌≡◌, ◌≢◌, ◌⊎◌, ℕ, ◌+◌, ◌%◌, ◌^◌, ◌<◌, ◌≤◌, List, [], ◌∷◌, ◌++◌, append_assoc, Some, length, map, reverse, take, suc, zero, slice_get, slice_index_or, refl, sym, ap, ◌∙◌, subst, inl, inr, ⊎_elim, arith}
-use Rattle.std.specs.Prelude.{Option, None, IfSome, Result, Ok, Err, IfOk, IfErr}
-use Rattle.std.proofs.Math.Logic.{∥∥₁_elim, ∥∥₁_map, ∥∥₁_map₂}
-use Rattle.std.proofs.lemmas.List.{append-nil, map-append, reverse-append}
-use Rattle.std.proofs.lemmas.Nat.{mod_below}
-use Rattle.rcu_model.specs.declared.event.ObjectId.{ObjectId}
-use Rattle.rcu_model.specs.declared.refusal.Refusal.{Refusal}
-use Rattle.rcu_model.specs.Sets.{In, same_object, without_object}
-use Rattle.rcu_model.proofs.Lemmas.{Once, Tells, at_number_same, none_some, object_tells, some_is}
-use Rattle.live_log.specs.declared.event.LiveEvent.{LiveEvent}
-use Rattle.live_log.specs.declared.event.LiveEvent.TheVariants.{ChainNote, Close, Object}
-use Rattle.live_log.specs.declared.event.ObjectEvent.TheVariants.{Cut, Queue, Replace, Retire}
-use Rattle.live_log.specs.Keys.{Falls}
-use Rattle.live_log.specs.Log.{Log, Begins, Has, HaveEnded, IsLiveRun, chain_note, record_of, state_of}
-use Rattle.live_log.specs.Tables.{HasKey, IsDirectory, IsFree, IsNamed, reserved, tabled}
-use Rattle.live_log.proofs.Lemmas.{begins_trans, chain_used, falls_cut, has_later, is_noted, kept_log, left_is_freed, linked_between, note_stays, run_of, tabled_maps}
-use Rattle.rcu_list.specs.live_rule.declared.rights.ChainRight.{ChainRight}
-use Rattle.rcu_list.specs.live_rule.declared.view.Look.{Look}
-use Rattle.rcu_list.specs.live_rule.declared.view.Sizes.{Sizes}
-use Rattle.rcu_list.specs.live_rule.declared.view.View.{View}
-use Rattle.rcu_list.specs.live_table.Rights.{AreAsKnown, IsListed, IsWriter, own_in}
-use Rattle.rcu_list.specs.live_items.Retiring.{Queues}
-use Rattle.rcu_list.specs.live_read.Hearing.{MakesMany, OnlyHears, OnlyMakesLast, Stays}
-use Rattle.rcu_list.proofs.live_read.Lemmas.{more_made, none_made}
-use Rattle.rcu_list.specs.live_read.declared.caller.Caller.{Ghosts}
-use Rattle.rcu_list.specs.live_reclaim.Refusing.{RefusesRetirement}
-use Rattle.rcu_list.specs.live_write.Chains.{MayPublish, list_in}
-use Rattle.rcu_list.proofs.Lemmas.{KnowsKeys}
-use Rattle.rcu_hash.specs.Directories.{directed_map}
-use Rattle.rcu_hash.specs.Leaving.{LeavesMap, Writes}
-use Rattle.rcu_hash.specs.Naming.{words_by}
-use Rattle.rcu_hash.specs.Tables.{bucket_of}
-use Rattle.rcu_list.specs.domain.Waiting.{FindsMore}
-use Rattle.rcu_hash.specs.Tidying.{ClearsNote, Cuts, Clears, Does, Follow, HasWaited, IsLeft, IsRefused, Kind, Retires, Uses, WasReplaced, callbacks_by, callbacks_in, change_by, changes_in, objects_in}
-use Rattle.rcu_hash.specs.Writers.{Each, HasKeysIn, HasNote, IsAlone, IsOutside}
-use Rattle.rcu_hash.proofs.Changing.{other_map}
+use Rattle.rcu_hash.proofs.Cited.Words.{Gv, Bool, ◌≡◌, ◌≢◌, ◌⊎◌, ℕ, ◌+◌, ◌%◌, ◌^◌, ◌<◌, ◌≤◌, List, [], ◌∷◌, ◌++◌, append_assoc, Some, length, map, reverse, take, suc, zero, slice_get, refl, sym, ap, ◌∙◌, subst, inl, inr, ⊎_elim, arith, Option, None, IfSome, Result, Ok, Err, IfErr, ∥∥₁_elim, ∥∥₁_map, append-nil, map-append, reverse-append, mod_below, ObjectId, Refusal, In, same_object, without_object, Once, Tells, at_number_same, in_append, in_left, none_some, object_tells, some_is, LiveEvent, ChainNote, Close, Object, Cut, Queue, Replace, Retire, Falls, Log, Begins, Has, HaveEnded, IsLiveRun, chain_note, record_of, state_of, HasKey, IsDirectory, IsFree, IsNamed, reserved, tabled, begins_trans, chain_used, falls_cut, has_later, is_noted, kept_log, left_is_freed, linked_between, note_stays, run_of, tabled_maps, hold_at, Look, Stored, Sizes, View, AreAsKnown, IsListed, IsWriter, own_in, Queues, MakesMany, OnlyMakesLast, Stays, more_made, none_made, Ghosts, RefusesRetirement, MayPublish, list_in, KnowsKeys, directed_map, LeavesMap, Writes, bucket_of, FindsMore, AreFreed, ClearsNote, Cuts, Clears, Does, Follow, HasWaited, IsLeft, IsRefused, Kind, Retires, Uses, WasReplaced, callbacks_by, callbacks_in, cleared_by, cleared_in, change_by, changes_in, objects_in, Each, HasKeysIn, HasNote, IsAlone, IsOutside, Naming, HasRight, LinksStill, length_of}
+use Rattle.rcu_hash.proofs.Directing.{map_same}
 use Rattle.rcu_hash.proofs.Holds.{each_last}
-use Rattle.rcu_hash.proofs.Named.{directed_between, lent_is, words_later}
+use Rattle.rcu_hash.proofs.Named.{directed_between, lent_used, unnamed, words_later}
+use Rattle.rcu_hash.proofs.Copies.{in_behind}
 
 ended_later : (before known log : Log) → Begins known log → HaveEnded before known → HaveEnded before log
 ended_later before known log b ended r n m opened = subst (Has (Close r n)) (sym b.1) (has_later (Close r n) b.0 known (ended r n m opened))
@@ -45,10 +11,6 @@ ended_later before known log b ended r n m opened = subst (Has (Close r n)) (sym
 -- what was waited for was so in a later log
 pub waited_later : (d : ℕ) (o : ObjectId) (log later : Log) → Begins log later → HasWaited d o log → HasWaited d o later
 waited_later d o log later b w = record { known = w.known; mark = w.mark; after = w.after; before = begins_trans w.mark log later w.before b; linked = w.linked; directory = w.directory; ended = ended_later w.mark log later b w.ended }
-
--- the words of a directory make it one
-pub by_words : (x : ℕ × List ℕ) (first buckets : ℕ) → x.1 ≡ words_by first buckets → IsDirectory x
-by_words x first buckets words = subst (λ (w : List ℕ). IsDirectory (x.0, w)) (sym words) (refl, refl)
 
 -- a list without its first object is one shorter
 without_absent : (xs : List ObjectId) (o : ObjectId) → ¬ In xs o → without_object o xs ≡ xs
@@ -94,81 +56,87 @@ module _ (qsbr : Bool) where
       let same = note_stays qsbr tabled w.known w.mark o w.after then (chain_used qsbr tabled w.known d o (run_of qsbr tabled w.known w.mark w.after then) w.linked) in
       left_is_freed qsbr w.mark log c d o goes run at here (subst IsDirectory (sym same) w.directory) noted (ended_later w.mark heard log b w.ended)
 
-  -- an event that leaves each other chain leaves the table's map
-  pub map_left : (chains first buckets d c : ℕ) (o : ObjectId) (e : LiveEvent) (before log : Log) → 0 < buckets → first + buckets ≤ chains → log ≡ e ∷ before → IsLiveRun qsbr tabled log → (state_of before).chain d ≡ o ∷ [] → (record_of before o).1 ≡ words_by first buckets → ((k : ℕ) → k ≢ c → (state_of (e ∷ before)).chain k ≡ (state_of before).chain k) → d ≢ c → ∥ (c < first) ⊎ (first + buckets ≤ c) ∥₁ → (key : ℕ) → directed_map chains d log key ≡ directed_map chains d before key
-  map_left chains first buckets d c o e before log many fits wrote run alone words others apart outside key =
-      let step : IsLiveRun qsbr tabled (e ∷ before) = subst (IsLiveRun qsbr tabled) wrote run in
-      let alone' : (state_of (e ∷ before)).chain d ≡ o ∷ [] = others d apart ∙ alone in
-      let used = chain_used qsbr tabled before d o step.1 (subst (λ (l : List ObjectId). In l o) (sym alone) (inl refl)) in
-      let words' = words_later qsbr before (e ∷ before) o (e ∷ [], refl) step first buckets used words in
-      let b : ℕ = bucket_of first buckets key in
-      let low = mod_below key buckets many in
-      let other : b ≢ c = λ is. ∥∥₁_elim outside (λ x y. absurd x) (λ out. ⊎_elim (λ under. absurd (omega (arith, is, under))) (λ over. absurd (omega (arith, is, over, low))) out) in
-      ap (λ (l : Log). directed_map chains d l key) wrote
-      ∙ (directed_between chains first buckets many fits qsbr d o (e ∷ before) (e ∷ before) (e ∷ before) ([], refl) ([], refl) step alone' alone' words' key
-      ∙ (other_map qsbr tabled e before b key step (others b other)
-      ∙ sym (directed_between chains first buckets many fits qsbr d o before before before ([], refl) ([], refl) step.1 alone alone words key)))
-
   -- the writer of such a chain, while the directory's right is lent to it
-  module _ (v : View) (d : ℕ) (o : ObjectId) (y x : ChainRight) (is : v.chains ≡ y ∷ x ∷ []) (lent : x.chain ≡ d) (alone : x.objects ≡ o ∷ []) (own : IsWriter v) (listed : IsListed v) (noted : (own_in v.chains).note ≡ d + 1) where
+  module _ (n : Naming) (v : View) (right : HasRight n v) (own : IsWriter v) (listed : IsListed v) (noted : (own_in v.chains).note ≡ n.directory + 1) where
     abbrev c : ℕ
     c = (own_in v.chains).chain
 
-    pub directed_there : (log : Log) → AreAsKnown log v.chains → (state_of log).chain d ≡ o ∷ []
-    directed_there log known = lent_is log v.chains y x o d is known alone lent
+    root : (log : Log) → AreAsKnown log v.chains → ((state_of log).chain n.directory ≡ n.object ∷ []) × (chain_note n.directory log ≡ 0)
+    root log known = let its = subst (AreAsKnown log) right.0 (subst (AreAsKnown log) own known).1 in
+        (ap (state_of log).chain (sym right.1) ∙ (its.0.0 ∙ right.2), ap (λ (k : ℕ). chain_note k log) (sym right.1) ∙ (its.0.1 ∙ right.3))
 
-    pub noted_there : (log : Log) → AreAsKnown log v.chains → chain_note c log ≡ d + 1
+    noted_there : (log : Log) → AreAsKnown log v.chains → chain_note c log ≡ n.directory + 1
     noted_there log known = (subst (AreAsKnown log) own known).0.1 ∙ noted
 
-    -- the directory's chain has another note
-    pub apart_there : (log : Log) → AreAsKnown log v.chains → x.note ≡ 0 → d ≢ c
-    apart_there log known none same =
-        let one : chain_note d log ≡ 0 = ap (λ (k : ℕ). chain_note k log) (sym lent) ∙ ((subst (AreAsKnown log) is known).1.0.1 ∙ none) in
-        let two : chain_note d log ≡ d + 1 = ap (λ (k : ℕ). chain_note k log) same ∙ noted_there log known in
-        absurd (omega (arith, one, two))
+    -- an event of its chain leaves the table's map
+    pub leaves_left : (seen heard : Log) (e : LiveEvent) (log : Log) (w : Writes qsbr tabled seen heard e log) → Begins v.seen w.before → AreAsKnown w.before v.chains → ((k : ℕ) → k ≢ c → (state_of (e ∷ w.before)).chain k ≡ (state_of w.before).chain k) → (chains : ℕ) → 0 < n.buckets → n.first + n.buckets ≤ chains → ∥ (c < n.first) ⊎ (n.first + n.buckets ≤ c) ∥₁ → ((key : ℕ) → directed_map chains n.directory log key ≡ directed_map chains n.directory w.before key) × (chain_note c w.before ≡ n.directory + 1)
+    leaves_left seen heard e log w b known others chains many fits outside =
+        let before : Log = w.before in let step : IsLiveRun qsbr tabled (e ∷ before) = subst (IsLiveRun qsbr tabled) w.wrote w.run in
+        let mine = noted_there before known in let alone = (root before known).0 in let zero = (root before known).1 in
+        let apart : n.directory ≢ c = λ same. let one = ap (λ (k : ℕ). chain_note k before) same ∙ mine in omega (arith, one, zero) in
+        let words = words_later qsbr v.seen before n.object b step.1 n.first n.buckets right.5 right.4 in let still = others n.directory apart ∙ alone in
+        let words' = words_later qsbr before (e ∷ before) n.object (e ∷ [], refl) step n.first n.buckets (lent_used qsbr before n.directory n.object step.1 alone) words in (
+          λ key.
+              let k : ℕ = bucket_of n.first n.buckets key in let low = mod_below key n.buckets many in
+              let other : k ≢ c = λ is. ∥∥₁_elim outside (λ x y. absurd x) (λ out. ⊎_elim (λ under. absurd (omega (arith, is, under))) (λ over. absurd (omega (arith, is, over, low))) out) in
+              ap (λ (l : Log). directed_map chains n.directory l key) w.wrote
+              ∙ (directed_between chains n.first n.buckets many fits qsbr n.directory n.object (e ∷ before) (e ∷ before) (e ∷ before) ([], refl) ([], refl) step still still words' key
+              ∙ (map_same qsbr before (e ∷ before) k key (e ∷ [], refl) step (others k other)
+              ∙ sym (directed_between chains n.first n.buckets many fits qsbr n.directory n.object before before before ([], refl) ([], refl) step.1 alone alone words key))),
+          mine,
+        )
 
-    module _ (seen heard : Log) (waited : HasWaited d o heard) where
+    -- it still links so many objects
+    pub links_still : AreAsKnown v.seen v.chains → ∥ (c < n.first) ⊎ (n.first + n.buckets ≤ c) ∥₁ → LinksStill n.directory (length_of (own_in v.chains)) v.seen
+    links_still known outside = (
+      record {
+        chain = c;
+        object = n.object;
+        noted = noted_there v.seen known;
+        present = (root v.seen known).0;
+        unnamed = unnamed (record_of v.seen n.object) n.first n.buckets c right.4 outside;
+      },
+      refl,
+      ap length (subst (AreAsKnown v.seen) own known).0.0,
+    )
+
+    module _ (seen heard : Log) (waited : HasWaited n.directory n.object heard) where
+      free : (log : Log) → Begins heard log → IsLiveRun qsbr tabled log → AreAsKnown log v.chains → IsFree log c
+      free log b run known = left_free n.directory n.object heard log c waited b run (root log known).0 (noted_there log known)
+
       pub may_cut_left : KnowsKeys v → (p : ObjectId) → In (list_in v) p → MayPublish qsbr tabled v seen heard [] (Object (Cut c p))
       may_cut_left keys p at log on run known made =
-          let free = left_free d o heard log c waited on.after_caller.1 run (directed_there log known) (noted_there log known) in
           let then = run_of qsbr tabled v.seen log on.after_writer.0 run in
           let note = note_stays qsbr tabled v.seen log p on.after_writer.0 run (chain_used qsbr tabled v.seen c p then (subst (λ (l : List ObjectId). In l p) (sym listed.0) at)) in (
-            free,
+            free log on.after_caller.1 run known,
             subst HasKey (sym note) (keys p at),
             subst (Falls (record_of log)) (sym (at_number_same c (without_object p ((state_of log).chain c)) (state_of log).chain)) (falls_cut (record_of log) ((state_of log).chain c) p ((tabled_maps qsbr).falls log c run)),
           )
 
-      pub may_clear_left : (n first buckets : ℕ) → d + 1 < 2 ^ 63 → c ≡ n → list_in v ≡ [] → In (state_of v.seen).used o → (record_of v.seen o).1 ≡ words_by first buckets → ∥ (c < first) ⊎ (first + buckets ≤ c) ∥₁ → MayPublish qsbr tabled v seen heard [] (ChainNote n 0)
-      may_clear_left n first buckets small number nothing used words outside log on run known made =
-          let free = left_free d o heard log c waited on.after_caller.1 run (directed_there log known) (noted_there log known) in
+      pub may_clear_left : (k : ℕ) → n.directory + 1 < 2 ^ 63 → c ≡ k → list_in v ≡ [] → ∥ (c < n.first) ⊎ (n.first + n.buckets ≤ c) ∥₁ → MayPublish qsbr tabled v seen heard [] (ChainNote k 0)
+      may_clear_left k small number nothing outside log on run known made =
           let none : (state_of log).chain c ≡ [] = (subst (AreAsKnown log) own known).0.0 ∙ nothing in
-          let then : (record_of log o).1 ≡ words_by first buckets = words_later qsbr v.seen log o on.after_writer.0 run first buckets used words in
-          let unnamed : ¬ IsNamed log c = λ m.
+          let then = words_later qsbr v.seen log n.object on.after_writer.0 run n.first n.buckets right.5 right.4 in
+          let no : ¬ IsNamed log c = λ m.
           let mine = noted_there log known in
-          let here : m.chain ≡ d = ⊎_elim
+          let here : m.chain ≡ n.directory = ⊎_elim
           (λ (its : chain_note c log ≡ m.chain + 1). omega (arith, its, mine))
           (λ (held : chain_note c log ≡ reserved m.object). absurd (omega (arith, held, mine, small)))
           (is_noted qsbr log c m.chain m.object run m.linked m.directory m.names).2 in
-          let same : o ≡ m.object = only o m.object (subst (λ (l : List ObjectId). In l m.object) (ap (state_of log).chain here ∙ directed_there log known) m.linked) in
-          let its_words : (record_of log m.object).1 ≡ words_by first buckets = ap (λ (p : ObjectId). (record_of log p).1) (sym same) ∙ then in
-          let low : first ≤ c = subst (λ (w : List ℕ). slice_index_or w 0 0 ≤ c) its_words m.names.0 in
-          let high : c < first + buckets = subst (λ (w : List ℕ). c < slice_index_or w 0 0 + slice_index_or w 1 0) its_words m.names.1 in
-          ∥∥₁_elim outside (λ p q. absurd p) (λ out. ⊎_elim (λ under. absurd (omega (arith, low, under))) (λ over. absurd (omega (arith, high, over))) out) in
-          subst (λ (k : ℕ). tabled log (ChainNote k 0)) number (inr (free, inl (refl, none, unnamed)))
+          let same : n.object ≡ m.object = only n.object m.object (subst (λ (l : List ObjectId). In l m.object) (ap (state_of log).chain here ∙ (root log known).0) m.linked) in
+          unnamed (record_of log m.object) n.first n.buckets c (ap (λ (p : ObjectId). (record_of log p).1) (sym same) ∙ then) outside m.names in
+          subst (λ (j : ℕ). tabled log (ChainNote j 0)) number (inr (free log on.after_caller.1 run known, inl (refl, none, no)))
 
 -- what a refused retirement tells
 module _ {W S : Type 0} (w : Ghosts W S) (qsbr : Bool) (allows : Log → LiveEvent → Type 0) (sizes : Sizes) (q : ℕ) (old new : W) (e : Refusal) (r : RefusesRetirement w qsbr allows sizes q old new e) where
-  pub refused_why : IsRefused w old new e
-  refused_why = ⊎_elim (λ closed. inl (closed.0, (q, sym r.told ∙ closed.1))) (λ memory. inr memory.0) r.why
+  pub refused_why : IsRefused w new (λ n. n ≡ q) e
+  refused_why = ⊎_elim (λ closed. inl (closed.0, (q, refl, sym r.told ∙ closed.1))) (λ memory. inr memory.0) r.why
 
   pub refused_finds : FindsMore w old new
   refused_finds = (r.same.1, (_ ∷ [], r.looked))
 
 -- what goes on
 module _ {W S : Type 0} (w : Ghosts W S) where
-  pub only_finds : (a b : W) → OnlyHears w a b → FindsMore w a b
-  only_finds a b h = (h.1, ([], h.0.1))
-
   pub makes_finds : (a b : W) (log : Log) → OnlyMakesLast w a b log → FindsMore w a b
   makes_finds a b log m = (m.2, ([], m.1))
 
@@ -197,7 +165,7 @@ module _ (qsbr : Bool) (allows : Log → LiveEvent → Type 0) (sizes : Sizes) (
   does_weaker : (known heard log : Log) (k : Kind) → Begins known heard → Does qsbr allows sizes d seen heard k log → Does qsbr allows sizes d seen known k log
   does_weaker known heard log (Cuts callback) b r = record { chain = r.chain; object = r.object; ticket = r.ticket; published = r.published; leaves = leaves_weaker qsbr allows sizes.chains d seen known heard (Object (Cut r.chain r.object)) r.published b r.leaves; noted = r.noted; hands = r.hands }
   does_weaker known heard log (Retires callback) b r = record { object = r.object; given = r.given; queued = let q = r.queued in record { before = q.before; at = (q.at.0, begins_trans known heard q.before b q.at.1, q.at.2); within = q.within; retired = q.retired; id = q.id; is = q.is; wrote = q.wrote; last = q.last; run = q.run } }
-  does_weaker known heard log Clears b r = record { chain = r.chain; leaves = leaves_weaker qsbr allows sizes.chains d seen known heard (ChainNote r.chain 0) log b r.leaves; noted = r.noted }
+  does_weaker known heard log (Clears chain) b r = record { leaves = leaves_weaker qsbr allows sizes.chains d seen known heard (ChainNote chain 0) log b r.leaves; noted = r.noted }
 
   pub follow_weaker : (known heard log : Log) (ss : List (Kind × Log)) → Begins known heard → Follow qsbr allows sizes d seen heard ss log → Follow qsbr allows sizes d seen known ss log
   follow_weaker known heard log [] b f = begins_trans known heard log b f
@@ -215,6 +183,16 @@ module _ (qsbr : Bool) (allows : Log → LiveEvent → Type 0) (sizes : Sizes) (
   changes_both [] ts = omega arith
   changes_both (s ∷ ss) ts = let rest = changes_both ss ts in omega arith
 
+  cleared_both : (ss ts : List (Kind × Log)) → cleared_in (ss ++ ts) ≡ cleared_in ss ++ cleared_in ts
+  cleared_both [] ts = refl
+  cleared_both (s ∷ ss) ts = ap (λ cs. cleared_by s.0 ++ cs) (cleared_both ss ts) ∙ sym (append_assoc (cleared_by s.0) (cleared_in ss) (cleared_in ts))
+
+  pub freed_both : (ss ts : List (Kind × Log)) (found more : List Look) → AreFreed sizes (cleared_in ss) found → AreFreed sizes (cleared_in ts) more → AreFreed sizes (cleared_in (ss ++ ts)) (more ++ found)
+  freed_both ss ts found more one two c h = ⊎_elim
+      (λ first. in_behind more found (Stored (hold_at sizes c) 0) (one c first))
+      (λ then. in_left more found (Stored (hold_at sizes c) 0) (two c then))
+      (in_append (cleared_in ss) (cleared_in ts) c (subst (λ (cs : List ℕ). In cs c) (cleared_both ss ts) h))
+
   -- what was heard of at the end began with what was before
   pub heard_on : (known heard log : Log) (ss : List (Kind × Log)) → Begins known heard → Follow qsbr allows sizes d seen heard ss log → Begins known log
   heard_on known heard log [] b f = begins_trans known heard log b f
@@ -223,12 +201,12 @@ module _ (qsbr : Bool) (allows : Log → LiveEvent → Type 0) (sizes : Sizes) (
       (begins_trans known r.published r.hands.queued.before (begins_trans known p.before r.published (begins_trans known heard p.before b p.after.1) (_ ∷ [], p.wrote)) r.hands.queued.at)) f.1
   heard_on known heard log ((Retires callback, at) ∷ ss) b f = let r = f.0 in
       heard_on known at log ss (queued_later qsbr allows _ r.object (d % sizes.queues) r.given callback known at r.queued (begins_trans known heard r.queued.before b r.queued.at.1)) f.1
-  heard_on known heard log ((Clears, at) ∷ ss) b f = let p = f.0.leaves.writes in
+  heard_on known heard log ((Clears chain, at) ∷ ss) b f = let p = f.0.leaves.writes in
       heard_on known at log ss (begins_trans known p.before at (begins_trans known heard p.before b p.after.1) (_ ∷ [], p.wrote)) f.1
 
   module _ {D W S : Type 0} (w : Ghosts W S) (code : D → Gv) where
-    pub uses_none : (a b : W) (jobs : List D) (heard log : Log) → Stays w a b → Begins heard log → Uses qsbr allows sizes d seen w code a b jobs jobs heard log
-    uses_none a b jobs heard log stays before = record { used = []; are = sym (append-nil jobs); steps = []; follow = before; callbacks = refl; made = none_made w a b stays }
+    pub uses_none : (a b : W) (jobs : List D) (heard log : Log) → Stays w a b → ((found : List Look) × (w.looks b ≡ found ++ w.looks a)) → Begins heard log → Uses qsbr allows sizes d seen w code a b jobs jobs heard log
+    uses_none a b jobs heard log stays more before = record { used = []; are = sym (append-nil jobs); steps = []; follow = before; callbacks = refl; made = none_made w a b stays; found = more.0; looks = more.1; freed = λ c none. absurd none }
 
     pub uses_both : (a b c : W) (jobs mid left : List D) (heard then log : Log) → Uses qsbr allows sizes d seen w code a b jobs mid heard then → Uses qsbr allows sizes d seen w code b c mid left then log → Uses qsbr allows sizes d seen w code a c jobs left heard log
     uses_both a b c jobs mid left heard then log x y = record {
@@ -238,21 +216,38 @@ module _ (qsbr : Bool) (allows : Log → LiveEvent → Type 0) (sizes : Sizes) (
       follow = follow_both heard then log x.steps y.steps x.follow y.follow;
       callbacks = callbacks_both x.steps y.steps ∙ (λ i. x.callbacks i ++ y.callbacks i) ∙ sym (ap (map code) (reverse-append y.used x.used) ∙ map-append code (reverse x.used) (reverse y.used));
       made = subst (MakesMany w a c) (sym (changes_both x.steps y.steps)) (more_made w a b c (changes_in x.steps) (changes_in y.steps) x.made y.made);
+      found = y.found ++ x.found;
+      looks = y.looks ∙ (ap (λ (l : List Look). y.found ++ l) x.looks ∙ sym (append_assoc y.found x.found (w.looks a)));
+      freed = freed_both x.steps y.steps x.found y.found x.freed y.freed;
     }
 
     -- one callback for one step
-    pub uses_one : (a b : W) (jobs left : List D) (job : D) (heard log : Log) (k : Kind) → callbacks_by k ≡ code job ∷ [] → MakesMany w a b (change_by k) → jobs ≡ left ++ job ∷ [] → Does qsbr allows sizes d seen heard k log → Uses qsbr allows sizes d seen w code a b jobs left heard log
-    uses_one a b jobs left job heard log k one made are does = let alone : change_by k ≡ change_by k + 0 = omega arith in record {
+    pub uses_one : (a b : W) (jobs left : List D) (job : D) (heard log : Log) (k : Kind) → callbacks_by k ≡ code job ∷ [] → cleared_by k ≡ [] → MakesMany w a b (change_by k) → ((found : List Look) × (w.looks b ≡ found ++ w.looks a)) → jobs ≡ left ++ job ∷ [] → Does qsbr allows sizes d seen heard k log → Uses qsbr allows sizes d seen w code a b jobs left heard log
+    uses_one a b jobs left job heard log k one none made more are does = let alone : change_by k ≡ change_by k + 0 = omega arith in record {
       used = job ∷ [];
       are = are;
       steps = (k, log) ∷ [];
       follow = (does, ([], refl));
       callbacks = append-nil (callbacks_by k) ∙ one;
       made = subst (MakesMany w a b) alone made;
+      found = more.0;
+      looks = more.1;
+      freed = λ c h. absurd (subst (λ (cs : List ℕ). In (cs ++ []) c) none h);
     }
 
-    pub uses_no : (a b : W) (jobs : List D) (heard log : Log) → MakesMany w a b 1 → ClearsNote qsbr allows sizes d seen heard log → Uses qsbr allows sizes d seen w code a b jobs jobs heard log
-    uses_no a b jobs heard log made does = record { used = []; are = sym (append-nil jobs); steps = (Clears, log) ∷ []; follow = (does, ([], refl)); callbacks = refl; made = made }
+    -- and a note for none
+    pub uses_no : (a b : W) (jobs : List D) (heard at log : Log) (chain : ℕ) → MakesMany w a b 1 → w.looks b ≡ Stored (hold_at sizes chain) 0 ∷ w.looks a → ClearsNote qsbr allows sizes d seen heard chain at → Begins at log → Uses qsbr allows sizes d seen w code a b jobs jobs heard log
+    uses_no a b jobs heard at log chain made looked does before = record {
+      used = [];
+      are = sym (append-nil jobs);
+      steps = (Clears chain, at) ∷ [];
+      follow = (does, before);
+      callbacks = refl;
+      made = made;
+      found = Stored (hold_at sizes chain) 0 ∷ [];
+      looks = looked;
+      freed = λ c h. ⊎_elim (λ is. inl (ap (λ (n : ℕ). Stored (hold_at sizes n) 0) is)) (λ none. absurd none) h;
+    }
 
 -- what is so of an option where there is one
 pub some_on : {A : Type 0} (r : Option A) (P Q : A → Type 0) → ((x : A) → P x → Q x) → IfSome r P → IfSome r Q
@@ -260,17 +255,9 @@ some_on None P Q f p = tt
 some_on (Some x) P Q f p = f x p
 
 -- what is so of a result in one case
-pub ok_on : {A E : Type 0} (r : Result A E) (P Q : A → Type 0) → ((x : A) → P x → Q x) → IfOk r P → IfOk r Q
-ok_on (Ok x) P Q f p = f x p
-ok_on (Err e) P Q f p = tt
-
 pub err_on : {A E : Type 0} (r : Result A E) (P Q : E → Type 0) → ((e : E) → P e → Q e) → IfErr r P → IfErr r Q
 err_on (Ok x) P Q f p = tt
 err_on (Err e) P Q f p = f e p
-
-pub err_both : {A E : Type 0} (r : Result A E) (P Q R : E → Type 0) → IfErr r P → IfErr r Q → ((e : E) → P e → Q e → R e) → IfErr r R
-err_both (Ok x) P Q R p q f = tt
-err_both (Err e) P Q R p q f = f e p q
 
 -- how many objects more chains have
 pub objects_both : (vs ws : List View) → objects_in (vs ++ ws) ≡ objects_in vs + objects_in ws
@@ -278,13 +265,9 @@ objects_both [] ws = omega arith
 objects_both (v ∷ vs) ws = let rest = objects_both vs ws in omega arith
 
 -- the writers of what an earlier directory left, by what is known of each
-pub each_left : (d first buckets : ℕ) (vs : List View) → Each IsAlone vs → Each HasKeysIn vs → Each (HasNote (d + 1)) vs → ∥ Each (IsOutside first buckets) vs ∥₁ → Each (IsLeft d first buckets) vs
+pub each_left : (d first buckets : ℕ) (vs : List View) → Each IsAlone vs → Each HasKeysIn vs → Each (HasNote (d + 1)) vs → Each (IsOutside first buckets) vs → Each (IsLeft d first buckets) vs
 each_left d first buckets [] alone keys notes outside = tt
-each_left d first buckets (v ∷ vs) alone keys notes outside = ((alone.0, keys.0, notes.0, ∥∥₁_map outside (λ h. h.0)), each_left d first buckets vs alone.1 keys.1 notes.1 (∥∥₁_map outside (λ h. h.1)))
-
-pub all_outside : (d first buckets : ℕ) (vs : List View) → Each (IsLeft d first buckets) vs → ∥ Each (IsOutside first buckets) vs ∥₁
-all_outside d first buckets [] all = ∣ tt ∣₁
-all_outside d first buckets (v ∷ vs) all = ∥∥₁_map₂ all.0.3 (all_outside d first buckets vs all.1) (λ h hs. (h, hs))
+each_left d first buckets (v ∷ vs) alone keys notes outside = ((alone.0, keys.0, notes.0, ∣ outside.0 ∣₁), each_left d first buckets vs alone.1 keys.1 notes.1 outside.1)
 
 -- all but the last one, and that one
 pub each_pop : {X : Type 0} (P : X → Type 0) (xs : List X) (x : X) → Each P (xs ++ x ∷ []) → Each P xs × P x

@@ -1,45 +1,15 @@
 -- What a call of a bucket's list tells once its writer has heard the caller.
-use Rattle.std.proofs.Common.{Bool, ◌≡◌, ℕ, ◌%◌, List, [], ◌∷◌, ◌++◌, Option, None, IsSome, refl, sym, ap, ◌∙◌, subst, inl, inr}
-use Rattle.rcu_model.specs.declared.refusal.Refusal.{Refusal}
-use Rattle.rcu_model.specs.declared.refusal.Refusal.TheVariants.{Missing}
-use Rattle.live_log.specs.declared.event.LiveEvent.{LiveEvent}
-use Rattle.live_log.specs.Log.{Log, Begins}
-use Rattle.live_log.proofs.Lemmas.{begins_trans}
-use Rattle.rcu_list.specs.live_rule.declared.view.Look.{Look}
-use Rattle.rcu_list.specs.live_rule.declared.view.Look.TheVariants.{Loaded, Stored}
-use Rattle.rcu_list.specs.live_rule.declared.view.Sizes.{Sizes}
-use Rattle.rcu_list.specs.live_rule.Places.{cell_at, closed_at}
-use Rattle.rcu_list.specs.live_read.Hearing.{IsAfter, OnlyHears}
-use Rattle.rcu_list.specs.live_read.declared.caller.Caller.{Ghosts}
-use Rattle.rcu_list.specs.live_reclaim.Refusing.{RefusesRetirement}
-use Rattle.rcu_list.specs.Maps.{HasLastRank, map_of}
+use Rattle.rcu_hash.proofs.Cited.Words.{Bool, ◌≡◌, ℕ, ◌%◌, List, [], ◌∷◌, ◌++◌, Option, None, IsSome, refl, sym, ap, ◌∙◌, subst, inl, inr, Refusal, Missing, LiveEvent, Log, Begins, begins_trans, Look, Loaded, Stored, Sizes, cell_at, closed_at, IsAfter, OnlyHears, Ghosts, RefusesRetirement, HasLastRank, map_of, FindsNoRecord, GivesBack, stays_both, LeadsTo, directed_map, During, HadIn, LackedThrough, RefusesInsertionThrough, RefusesRemovalThrough, RefusesReplacementThrough, bucket_of}
 use Rattle.rcu_list.specs.Refusing as list
-use Rattle.rcu_list.specs.Refusing.{FindsNoRecord, GivesBack}
-use Rattle.rcu_list.proofs.Lemmas.{stays_both}
-use Rattle.rcu_hash.specs.Directories.{LeadsTo, directed_map}
-use Rattle.rcu_hash.specs.Refusing.{During, HadIn, LackedThrough, RefusesInsertionThrough, RefusesRemovalThrough, RefusesReplacementThrough}
-use Rattle.rcu_hash.specs.Tables.{bucket_of}
 
--- a log after one that comes after all that was known
-pub after_both : (qsbr : Bool) (allows : Log → LiveEvent → Type 0) (seen heard seen' middle log : Log) → seen' ≡ seen → IsAfter qsbr allows seen heard middle → IsAfter qsbr allows seen' middle log → IsAfter qsbr allows seen heard log
-after_both qsbr allows seen heard seen' middle log is a b = record {
-  after_seen = subst (λ (l : Log). Begins l log) is b.after_seen;
-  after_heard = begins_trans heard middle log a.after_heard b.after_heard;
-  run = b.run;
-}
+-- a log after all that was known later comes after what was known before
+pub after_since : (qsbr : Bool) (allows : Log → LiveEvent → Type 0) (seen heard seen' heard' log : Log) → seen' ≡ seen → Begins heard heard' → IsAfter qsbr allows seen' heard' log → IsAfter qsbr allows seen heard log
+after_since qsbr allows seen heard seen' heard' log is b a = record { after_seen = subst (λ (l : Log). Begins l log) is a.after_seen; after_heard = begins_trans heard heard' log b a.after_heard; run = a.run }
 
 -- the caller before the call, once the list's writer heard it, and at the end
 module _ {W S : Type 0} (w : Ghosts W S) (qsbr : Bool) (allows : Log → LiveEvent → Type 0) (sizes : Sizes) (w0 w1 w2 : W) (hears : OnlyHears w w0 w1) (after : IsAfter qsbr allows (w.seen w0) (w.heard w0) (w.heard w1)) where
   later : (log : Log) → IsAfter qsbr allows (w.seen w1) (w.heard w1) log → IsAfter qsbr allows (w.seen w0) (w.heard w0) log
-  later log a = record {
-    after_seen = subst (λ (l : Log). Begins l log) hears.0.0.0 a.after_seen;
-    after_heard = begins_trans (w.heard w0) (w.heard w1) log after.after_heard a.after_heard;
-    run = a.run;
-  }
-
-  -- what comes after all that the caller knew then comes after all that it knew before
-  pub knew : (log : Log) → Begins (w.seen w1) log → Begins (w.heard w1) log → Begins (w.seen w0) log × Begins (w.heard w0) log
-  knew log saw heard_of = (subst (λ (l : Log). Begins l log) hears.0.0.0 saw, begins_trans (w.heard w0) (w.heard w1) log after.after_heard heard_of)
+  later log a = after_since qsbr allows (w.seen w0) (w.heard w0) (w.seen w1) (w.heard w1) log hears.0.0.0 after.after_heard a
 
   module _ (e : Refusal) where
     no_record : FindsNoRecord w qsbr allows sizes w1 w2 e → FindsNoRecord w qsbr allows sizes w0 w2 e
@@ -83,8 +53,8 @@ module _ {W S : Type 0} (w : Ghosts W S) (qsbr : Bool) (allows : Log → LiveEve
       abbrev bucket : ℕ
       bucket = bucket_of first buckets key
 
-      met : (so : Log → Type 0) → so known → Begins (w.heard w1) (w.heard w2) → During w qsbr allows w0 w2 so
-      met so holds b = record { at = w.heard w1; after = after; before = b; so = subst so (sym is) holds }
+      met : (so : Log → Type 0) → so (w.heard w1) → Begins (w.heard w1) (w.heard w2) → During w qsbr allows w0 w2 so
+      met so holds b = record { at = w.heard w1; after = after; before = b; so = holds }
 
       unmoved : w2 ≡ w1 → Begins (w.heard w1) (w.heard w2)
       unmoved same = subst (λ (x : W). Begins (w.heard w1) (w.heard x)) (sym same) ([], refl)
@@ -93,16 +63,19 @@ module _ {W S : Type 0} (w : Ghosts W S) (qsbr : Bool) (allows : Log → LiveEve
       only_hears same = subst (λ (x : W). OnlyHears w w0 x) (sym same) hears
 
       -- of a table that a directory leads, which is as its bucket where the caller was heard
-      module _ (d : ℕ) (map_is : directed_map sizes.chains d known key ≡ map_of known bucket key) (leads : LeadsTo d known key bucket) where
+      module _ (d : ℕ) (map_is : directed_map sizes.chains d (w.heard w1) key ≡ map_of (w.heard w1) bucket key) (leads : LeadsTo d (w.heard w1) key bucket) where
+        known_map : directed_map sizes.chains d (w.heard w1) key ≡ map_of known bucket key
+        known_map = map_is ∙ ap (λ (l : Log). map_of l bucket key) is
+
         had_in : IsSome (map_of known bucket key) → Begins (w.heard w1) (w.heard w2) → HadIn w qsbr allows sizes w0 w2 e d key bucket
-        had_in has b = met (λ log. IsSome (directed_map sizes.chains d log key) × LeadsTo d log key bucket) (subst (λ (x : Option ℕ). IsSome x) (sym map_is) has, leads) b
+        had_in has b = met (λ log. IsSome (directed_map sizes.chains d log key) × LeadsTo d log key bucket) (subst (λ (x : Option ℕ). IsSome x) (sym known_map) has, leads) b
 
         lacked : map_of known bucket key ≡ None → Begins (w.heard w1) (w.heard w2) → LackedThrough w qsbr allows sizes w0 w2 e d key
-        lacked none b = met (λ log. directed_map sizes.chains d log key ≡ None) (map_is ∙ none) b
+        lacked none b = met (λ log. directed_map sizes.chains d log key ≡ None) (known_map ∙ none) b
 
         pub insertion_through : list.RefusesInsertion w qsbr allows sizes w1 w2 e known bucket key → RefusesInsertionThrough w qsbr allows sizes w0 w2 e d key
         insertion_through (inl (x, has, same)) = inl (x, (bucket, had_in has (unmoved same)), only_hears same)
-        insertion_through (inr (none, inl (x, last, same))) = inr (lacked none (unmoved same), inl (x, met (λ log. (c : ℕ) × LeadsTo d log key c × HasLastRank log c) (bucket, leads, last) (unmoved same), only_hears same))
+        insertion_through (inr (none, inl (x, last, same))) = inr (lacked none (unmoved same), inl (x, met (λ log. (c : ℕ) × LeadsTo d log key c × HasLastRank log c) (bucket, leads, subst (λ (l : Log). HasLastRank l bucket) (sym is) last) (unmoved same), only_hears same))
         insertion_through (inr (none, inr f)) = inr (lacked none f.after.after_heard, inr (no_record f))
 
         pub successor_through : list.RefusesSuccessor w qsbr allows sizes w1 w2 e known bucket key → RefusesReplacementThrough w qsbr allows sizes w0 w2 e d key

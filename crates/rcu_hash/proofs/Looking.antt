@@ -1,26 +1,61 @@
 -- What a lookup that read a directory answers.
-use Rattle.gp_memb.specs.declared.plan.GracePlan as plan
-use Rattle.std.proofs.Common.{◌≡◌, ℕ, ◌<◌, ◌≤◌, ◌+◌, ◌%◌, ◌==◌, ◌&&◌, Bool, true, false, List, [], Option, Some, None, cond, nat_lt, refl, sym, ap, ◌∙◌, subst, arith, eq-eqb, lt_of_not-le}
-use Rattle.std.proofs.lemmas.Bool.{eqb-true, lt-ltb, ltb-true}
-use Rattle.std.proofs.lemmas.Nat.{mod_below}
-use Rattle.std.proofs.Math.Nat.{mod-eq_of_lt}
-use mathlib.Core.Logic.{dite}
-use native.Mathlib.Decide.{dec_le}
-use Rattle.rcu_model.specs.declared.event.ObjectId.{ObjectId}
-use Rattle.live_log.specs.declared.event.LiveEvent.TheVariants.{Close}
-use Rattle.live_log.specs.Log.{Log, Begins, Has, record_of}
-use Rattle.live_log.specs.Tables.{kind_of, tabled}
-use Rattle.live_log.proofs.Lemmas.{begins_trans}
-use Rattle.rcu_list.specs.live_read.declared.reader_core.ReaderCore.{ReaderCore}
-use Rattle.rcu_list.specs.live_read.Holding.{log_of, ordinal}
-use Rattle.rcu_list.specs.live_read.Reads.{FindsFirst, Looks}
-use Rattle.rcu_list.specs.live_read.Sections.{IsIn}
-use Rattle.rcu_list.proofs.live_read.Lemmas.{looks_twice}
-use Rattle.rcu_list.specs.Maps.{AnswersBetween, map_of}
-use Rattle.rcu_hash.specs.Directories.{AnswersThrough, WalksThrough, buckets_in, first_in, bucket_in, leads, leads_to, value_through}
-use Rattle.rcu_hash.specs.Tables.{bucket_of}
-use Rattle.rcu_hash.proofs.Going.{WentThrough}
+use Rattle.rcu_hash.proofs.Cited.Words.{◌≡◌, ◌≢◌, ℕ, ◌+◌, ◌%◌, ◌<◌, ◌==◌, if◌then◌else◌, Bool, true, false, List, [], ◌∷◌, ◌++◌, Option, Some, None, refl, sym, ap, ◌∙◌, subst, inl, inr, ⊎_elim, arith, ne_eqb, FoldsTo, dite, ℕ_discrete, In, in_append, Log, Begins, AnswersBetween, times, ◌≤◌, ◌&&◌, cond, nat_lt, eq-eqb, lt_of_not-le, eqb-true, lt-ltb, ltb-true, mod_below, mod-eq_of_lt, dec_le, ObjectId, Close, Has, record_of, kind_of, tabled, begins_trans, ReaderCore, log_of, ordinal, FindsFirst, Looks, IsIn, looks_twice, map_of, AnswersThrough, WalksThrough, buckets_in, first_in, bucket_in, leads, leads_to, value_through, bucket_of}
 use Rattle.rcu_hash.proofs.Directing.{answers_for_table, both}
+use Rattle.rcu_list.specs.Walks as list
+use Rattle.gp_memb.specs.declared.plan.GracePlan as plan
+
+if_sum : (b : Bool) (m n k : ℕ) → m ≡ n + k → (if b then m + 1 else m) ≡ (if b then n + 1 else n) + k
+if_sum true m n k e = omega arith
+if_sum false m n k e = e
+
+times_sum : (key : ℕ) (xs ys : List (ℕ × ℕ)) → times key (xs ++ ys) ≡ times key xs + times key ys
+times_sum key [] ys = omega arith
+times_sum key (e ∷ es) ys = if_sum (e.0 == key) (times key (es ++ ys)) (times key es) (times key ys) (times_sum key es ys)
+
+times_none : (key : ℕ) (xs : List (ℕ × ℕ)) → ((value : ℕ) → ¬ In xs (key, value)) → times key xs ≡ 0
+times_none key [] none = refl
+times_none key ((k, v) ∷ es) none =
+    ap (λ (b : Bool). if b then times key es + 1 else times key es) (ne_eqb k key (λ e. none v (inl (ap (λ (n : ℕ). (n, v)) e))))
+    ∙ times_none key es (λ value h. none value (inr h))
+
+-- calls with one list and then with another
+pub folds_both : {F A : Type 0} (R : F → A → F → Type 0) (f g h : F) (xs ys : List A) → FoldsTo R f xs g → FoldsTo R g ys h → FoldsTo R f (xs ++ ys) h
+folds_both R f g h [] ys a b = subst (λ (x : _). FoldsTo R x ys h) (sym a) b
+folds_both R f g h (x ∷ xs) ys a b = (a.0, a.1, folds_both R a.0 g h xs ys a.2 b)
+
+-- by how many buckets there are, and what it is that a key had a value in the table, or none, in some log of the walk
+module _ (buckets : ℕ) (had_in : Log → ℕ → Option ℕ → Type 0) where
+  -- the walk went through the buckets below this number
+  pub record WentThrough (new : Log) (number : ℕ) (met : List (ℕ × ℕ)) : Type 0 where
+    pub below : (key value : ℕ) → In met (key, value) → key % buckets < number
+    pub had : (key value : ℕ) → In met (key, value) → had_in new key (Some value)
+    pub lacked : (key : ℕ) → key % buckets < number → times key met ≢ 1 → had_in new key None
+
+  pub went_nowhere : (new : Log) → WentThrough new 0 []
+  went_nowhere new = record { below = λ key value h. absurd h; had = λ key value h. absurd h; lacked = λ key low n. absurd (omega arith) }
+
+  -- and through one more, by a walk that began later
+  module _ (later : (mid new : Log) (key : ℕ) (answer : Option ℕ) → Begins mid new → had_in mid key answer → had_in new key answer) (mid heard new : Log) (number c : ℕ) (met more : List (ℕ × ℕ)) (own : (key : ℕ) (answer : Option ℕ) → key % buckets ≡ number → AnswersBetween mid heard new c key answer → had_in new key answer) (b : Begins mid new) (w : WentThrough mid number met) (l : list.GoesThrough (λ key. key % buckets ≡ number) mid heard new c more) where
+    not_met : (key : ℕ) → key % buckets ≡ number → times key met ≡ 0
+    not_met key is = times_none key met (λ value h. let low = w.below key value h in absurd (omega arith))
+
+    not_more : (key : ℕ) → key % buckets ≢ number → times key more ≡ 0
+    not_more key other = times_none key more (λ value h. other (l.is_wanted key value h))
+
+    pub went_on : WentThrough new (number + 1) (met ++ more)
+    went_on = record {
+      below = λ key value h. ⊎_elim
+          (λ (x : In met (key, value)). let low = w.below key value x in omega arith)
+          (λ (x : In more (key, value)). let is = l.is_wanted key value x in omega arith)
+          (in_append met more (key, value) h);
+      had = λ key value h. ⊎_elim
+          (λ (x : In met (key, value)). later mid new key (Some value) b (w.had key value x))
+          (λ (x : In more (key, value)). own key (Some value) (l.is_wanted key value x) (l.had key value x))
+          (in_append met more (key, value) h);
+      lacked = λ key low n. let sum = times_sum key met more in dite (ℕ_discrete (key % buckets) number)
+          (λ is. let none = not_met key is in own key None is (l.lacked key is (λ one. n (omega arith))))
+          (λ other. let none = not_more key other in later mid new key None b (w.lacked key (omega arith) (λ one. n (omega arith))));
+    }
 
 -- a test that does not hold is false
 pub fails : (b : Bool) → (b ≡ true → ⊥) → b ≡ false
@@ -32,8 +67,8 @@ module _ (chains kind first buckets : ℕ) where
   pub leads_yes : (key : ℕ) → kind ≡ 1 → 0 < buckets → bucket_of first buckets key < chains → leads_to chains kind first buckets key ≡ true
   leads_yes key is many low = (λ i. eq-eqb kind 1 is i && (lt-ltb 0 buckets many i && lt-ltb (bucket_of first buckets key) chains low i))
 
-  pub leads_all : (key : ℕ) → leads_to chains kind first buckets key ≡ true → (kind ≡ 1) × (0 < buckets) × (bucket_of first buckets key < chains)
-  leads_all key led = let p = both (kind == 1) (nat_lt 0 buckets && nat_lt (bucket_of first buckets key) chains) led in let q = both (nat_lt 0 buckets) (nat_lt (bucket_of first buckets key) chains) p.1 in
+  pub led_all : (key : ℕ) → leads_to chains kind first buckets key ≡ true → (kind ≡ 1) × (0 < buckets) × (bucket_of first buckets key < chains)
+  led_all key led = let p = both (kind == 1) (nat_lt 0 buckets && nat_lt (bucket_of first buckets key) chains) led in let q = both (nat_lt 0 buckets) (nat_lt (bucket_of first buckets key) chains) p.1 in
       (eqb-true kind 1 p.0, ltb-true 0 buckets q.0, ltb-true (bucket_of first buckets key) chains q.1)
 
   -- the bucket of a number below theirs is that of each key with this remainder
@@ -47,7 +82,7 @@ module _ (chains kind first buckets : ℕ) where
     -- no bucket of a number above has a chain where this one has none
     pub leads_no_more : leads_to chains kind first buckets number ≡ false → (key : ℕ) → number ≤ key % buckets → leads_to chains kind first buckets key ≡ false
     leads_no_more none key above = fails (leads_to chains kind first buckets key) (λ led.
-        let y = leads_all key led in let m : number % buckets ≡ number = mod-eq_of_lt low in
+        let y = led_all key led in let m : number % buckets ≡ number = mod-eq_of_lt low in
         let yes = leads_yes number y.0 y.1 (let z = y.2 in omega arith) in cc)
 
 -- what was answered since a later log was answered since an earlier one
@@ -120,4 +155,4 @@ module _ {P K : Type 0} {g : plan.Ghosts P} (qsbr : Bool) (chains d : ℕ) (r : 
     walk_stops below none = ends_with (leads_no_more chains kind low many number below none)
 
     pub walk_ends : number ≡ many → WalksThrough (log_of r) (log_of r) new chains d met
-    walk_ends all = ends_with (λ key above. fails (leads_to chains kind low many key) (λ led. let m = mod_below key many (leads_all chains kind low many key led).1 in absurd (omega arith)))
+    walk_ends all = ends_with (λ key above. fails (leads_to chains kind low many key) (λ led. let m = mod_below key many (led_all chains kind low many key led).1 in absurd (omega arith)))

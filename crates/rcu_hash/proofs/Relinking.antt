@@ -1,26 +1,42 @@
 -- One directory takes the place of another: that this is allowed, and what it makes of the map.
-use Rattle.std.proofs.Common.{Bool, ◌≡◌, ◌≢◌, ◌⊎◌, ℕ, ◌+◌, ◌^◌, ◌<◌, ◌≤◌, List, [], ◌∷◌, ◌++◌, Some, cond, true, false, length, slice_get, refl, sym, ap, ◌∙◌, subst, inl, inr, ⊎_elim, arith}
-use Rattle.rcu_model.specs.declared.event.ObjectId.{ObjectId}
-use Rattle.rcu_model.specs.Sets.{In, replaced, same_object}
-use Rattle.rcu_model.proofs.Lemmas.{at_number_other, at_number_same, object_tells, some_is}
-use Rattle.live_log.specs.declared.event.LiveEvent.{LiveEvent}
-use Rattle.live_log.specs.declared.event.LiveEvent.TheVariants.{Object}
-use Rattle.live_log.specs.declared.event.ObjectEvent.TheVariants.{Replace}
-use Rattle.live_log.specs.Log.{Log, Begins, Has, IsLiveRun, chain_note, record_of, state_of}
-use Rattle.live_log.specs.Tables.{AreLeft, HasKey, IsDirectory, IsFree, MayDirect, Names, reserved, tabled}
-use Rattle.live_log.proofs.Lemmas.{begins_trans, chain_used, note_stays, replaced_note, run_of, unnoted_free}
-use Rattle.rcu_list.specs.live_rule.Seats.{lent_chains}
-use Rattle.rcu_list.specs.live_rule.declared.rights.ChainRight.{ChainRight}
-use Rattle.rcu_list.specs.live_rule.declared.view.View.{View}
-use Rattle.rcu_list.specs.live_table.Rights.{AreAsKnown, IsListed, cell_in, object_in, own_in, payload_in}
-use Rattle.rcu_list.specs.live_write.Chains.{MayPublish, list_in, replace_by}
-use Rattle.rcu_hash.specs.Copies.{value_in_bucket}
-use Rattle.rcu_hash.specs.Directories.{directed_map}
-use Rattle.rcu_hash.specs.Naming.{words_by}
-use Rattle.rcu_hash.specs.Writers.{AreFrom, Each, HasKeysIn, HasNote, HasSeen, IsRunIn, SawBefore, rights_of}
-use Rattle.rcu_hash.proofs.Exchanging.{known_both, map_told}
-use Rattle.rcu_hash.proofs.Holds.{each_map, known_note}
-use Rattle.rcu_hash.proofs.Named.{own_used, words_later}
+use Rattle.rcu_hash.proofs.Cited.Words.{Bool, ◌≡◌, ℕ, ◌+◌, ◌%◌, ◌<◌, ◌≤◌, List, [], ◌∷◌, ◌++◌, length, map, slice_get, slice_index_or, refl, sym, ap, ◌∙◌, subst, arith, zero, suc, mod_below, ObjectId, In, Log, Begins, IsLiveRun, record_of, state_of, tabled, chain_used, note_stays, run_of, ChainRight, View, AreAsKnown, IsListed, own_in, list_in, map_of, value_in, value_same, value_in_bucket, directed_map, words_by, bucket_of, AreFrom, Each, SawBefore, rights_of, value_at, ◌≢◌, ◌⊎◌, ◌^◌, Some, cond, true, false, inl, inr, ⊎_elim, replaced, same_object, at_number_other, at_number_same, object_tells, some_is, LiveEvent, Object, Replace, Has, chain_note, AreLeft, HasKey, IsDirectory, Names, reserved, begins_trans, replaced_note, lent_chains, cell_in, object_in, payload_in, MayPublish, replace_by, HasKeysIn, HasNote, HasSeen, IsRunIn}
+use Rattle.rcu_hash.proofs.Directing.{directed_is}
+use Rattle.rcu_hash.proofs.Holds.{each_map, known_note, root_may}
+use Rattle.rcu_hash.proofs.Named.{leads_all, own_used, words_later, by_words}
+
+-- what the type of a writer says of each
+pub each_all : {X : Type 0} (P : View → Type 0) (xs : List X) (f : X → View) → ((x : X) → P (f x)) → Each P (map f xs)
+each_all P [] f so = tt
+each_all P (x ∷ xs) f so = (so x, each_all P xs f so)
+
+-- the rights of two groups, one after the other
+pub known_both : (log : Log) (xs ys : List ChainRight) → AreAsKnown log (xs ++ ys) → AreAsKnown log xs × AreAsKnown log ys
+known_both log [] ys known = (tt, known)
+known_both log (x ∷ xs) ys known = let rest = known_both log xs ys known.1 in ((known.0, rest.0), rest.1)
+
+module _ (qsbr : Bool) (log : Log) (run : IsLiveRun qsbr tabled log) where
+  -- what a key has in the list of one writer it has in the log, in which the chain is as the writer knows it
+  value_known : (v : View) (key : ℕ) → IsListed v → Begins v.seen log → (state_of log).chain (own_in v.chains).chain ≡ list_in v → map_of log (own_in v.chains).chain key ≡ value_in (record_of v.seen) (list_in v) key
+  value_known v key listed saw is =
+      ap (λ (os : List ObjectId). value_in (record_of log) os key) is
+      ∙ value_same (record_of v.seen) (record_of log) (list_in v) key (λ o h. note_stays qsbr tabled v.seen log o saw run
+      (chain_used qsbr tabled v.seen (own_in v.chains).chain o (run_of qsbr tabled v.seen log saw run) (subst (λ (l : List ObjectId). In l o) (sym listed.0) h)))
+
+  -- and in the chain of its bucket, where these are as they are known
+  value_there : (first k key : ℕ) (vs : List View) → AreAsKnown log (rights_of vs) → AreFrom first vs → Each IsListed vs → Each (SawBefore log) vs → k < length vs → map_of log (first + k) key ≡ value_at (slice_get vs k) key
+  value_there first k key [] known from listed saw low = absurd (omega arith)
+  value_there first zero key (v ∷ vs) known from listed saw low = ap (λ (c : ℕ). map_of log c key) (omega (arith, from.0)) ∙ value_known v key listed.0 saw.0 known.0.0
+  value_there first (suc k) key (v ∷ vs) known from listed saw low =
+      let next : first + suc k ≡ first + 1 + k = omega arith in ap (λ (c : ℕ). map_of log c key) next ∙ value_there (first + 1) k key vs known.1 from.1 listed.1 saw.1 (omega arith)
+
+  -- so the map of a table whose buckets they are is told by them
+  pub map_told : (chains d first buckets : ℕ) (o : ObjectId) (key : ℕ) (vs : List View) → (state_of log).chain d ≡ o ∷ [] → (record_of log o).1 ≡ words_by first buckets → 0 < buckets → first + buckets ≤ chains → length vs ≡ buckets → AreAsKnown log (rights_of vs) → AreFrom first vs → Each IsListed vs → Each (SawBefore log) vs
+      → directed_map chains d log key ≡ value_in_bucket buckets vs key
+  map_told chains d first buckets o key vs alone words some fits many known from listed saw =
+      let low = mod_below key buckets some in
+      directed_is chains key (record_of log o) (leads_all chains first buckets some fits (record_of log o) words key) log d o alone refl
+      ∙ (ap (λ (w : List ℕ). map_of log (bucket_of (slice_index_or w 0 0) (slice_index_or w 1 0) key) key) words
+      ∙ value_there first (key % buckets) key vs known from listed saw (omega arith))
 
 -- what replaces the one object of a list is the one object of it
 replaced_alone : (o new : ObjectId) → replaced o new (o ∷ []) ≡ new ∷ []
@@ -54,10 +70,6 @@ keys_back qsbr log (v ∷ vs) (w ∷ ws) same listed keys saw seen runs =
       keys_back qsbr log vs ws (ap lent_chains same) listed.1 keys.1 saw.1 seen.1 runs.1,
     )
 
--- an object with these words is a directory
-pub directory_by : (log : Log) (o : ObjectId) (first many : ℕ) → (record_of log o).1 ≡ words_by first many → IsDirectory (record_of log o)
-directory_by log o first many words = subst (λ (w : List ℕ). IsDirectory ((record_of log o).0, w)) (sym words) (refl, refl)
-
 -- the words of a writer's one object stay
 pub words_since : (qsbr : Bool) (v : View) (log : Log) (o : ObjectId) (first many : ℕ) → Begins v.seen log → IsLiveRun qsbr tabled log → IsListed v → list_in v ≡ o ∷ [] → (record_of v.seen o).1 ≡ words_by first many → (record_of log o).1 ≡ words_by first many
 words_since qsbr v log o first many b run listed alone words = words_later qsbr v.seen log o b run first many (own_used qsbr v o (run_of qsbr tabled v.seen log b run) listed alone) words
@@ -65,34 +77,17 @@ words_since qsbr v log o first many b run listed alone words = words_later qsbr 
 -- the writer of a directory's chain may replace it, to which the rights to the chains of both directories are lent
 module _ (qsbr : Bool) (v u : View) (x : ChainRight) (d first many old_first old_many : ℕ) (vs us : List View) (lent : v.chains ≡ x ∷ (rights_of vs ++ rights_of us)) (own : x.chain ≡ d) (unnoted : x.note ≡ 0) (small : d + 1 < 2 ^ 63) (words : payload_in u.object ≡ words_by first many) (all : length us ≡ many) (from : AreFrom first us) (notes : Each (HasNote (reserved (object_in u.object))) us) (apart : (d < first) ⊎ (first + many ≤ d))
     (all_old : length vs ≡ old_many) (from_old : AreFrom old_first vs) (notes_old : Each (HasNote (d + 1)) vs) where
-  own_is : (own_in v.chains).chain ≡ d
-  own_is = ap (λ (l : List ChainRight). (own_in l).chain) lent ∙ own
-
-  own_free : (log : Log) → IsLiveRun qsbr tabled log → AreAsKnown log v.chains → IsFree log (own_in v.chains).chain
-  own_free log run known = subst (IsFree log) (sym own_is) (unnoted_free qsbr log d run (ap (λ (c : ℕ). chain_note c log) (sym own) ∙ ((subst (AreAsKnown log) lent known).0.1 ∙ unnoted)))
-
-  directs : (log : Log) (cell : ℕ) → AreAsKnown log v.chains → MayDirect log (own_in v.chains).chain (object_in u.object) (cell, payload_in u.object)
-  directs log cell known = (
-    subst (λ (n : ℕ). n + 1 < 2 ^ 63) (sym own_is) small,
-    λ e names.
-        let within = subst (λ (w : List ℕ). Names (cell, w) e) words names in
-        let news : AreAsKnown log (rights_of us) = (known_both log (rights_of vs) (rights_of us) (subst (AreAsKnown log) lent known).1).1 in (
-          (λ is. let same : e ≡ d = is ∙ own_is in ⊎_elim (λ (low : d < first). let a = within.0 in omega arith) (λ (high : first + many ≤ d). let a = within.1 in omega arith) apart),
-          known_note log (reserved (object_in u.object)) us first e news from notes within.0 (let a = within.1 in omega arith),
-        ),
-  )
-
   are_left : (log : Log) (o : ObjectId) → (record_of log o).1 ≡ words_by old_first old_many → AreAsKnown log v.chains → AreLeft log (own_in v.chains).chain o
   are_left log o old_words known e names =
       let within = subst (λ (w : List ℕ). Names ((record_of log o).0, w) e) old_words names in
       let olds : AreAsKnown log (rights_of vs) = (known_both log (rights_of vs) (rights_of us) (subst (AreAsKnown log) lent known).1).0 in
-      known_note log (d + 1) vs old_first e olds from_old notes_old within.0 (let a = within.1 in omega arith) ∙ ap (λ (c : ℕ). c + 1) (sym own_is)
+      known_note log (d + 1) vs old_first e olds from_old notes_old within.0 (let a = within.1 in omega arith) ∙ ap (λ (c : ℕ). c + 1) (sym (ap (λ (l : List ChainRight). (own_in l).chain) lent ∙ own))
 
   pub may_relink : (seen heard : Log) (o : ObjectId) → ((log : Log) → Begins v.seen log → IsLiveRun qsbr tabled log → (record_of log o).1 ≡ words_by old_first old_many) → MayPublish qsbr tabled v seen heard u.seen (replace_by o v u)
-  may_relink seen heard o old_words log goes run known may = let its = old_words log goes.after_writer.0 run in (
-    own_free log run known,
-    inr (subst (λ (w : List ℕ). IsDirectory (cell_in u.object, w)) (sym words) (refl, refl), directory_by log o old_first old_many its, directs log (cell_in u.object) known, are_left log o its known),
-  )
+  may_relink seen heard o old_words log goes run known may =
+      let its = old_words log goes.after_writer.0 run in
+      let m = root_may qsbr v u x (rights_of vs ++ rights_of us) d first many us lent own unnoted words all from notes apart small (λ z k. (known_both z (rights_of vs) (rights_of us) k).1) log run known in let n = m.1 (cell_in u.object) in
+      (m.0, inr (n.0, by_words (record_of log o) old_first old_many its, n.1, are_left log o its known))
 
 module _ (qsbr : Bool) (d : ℕ) (o new : ObjectId) (cell first many : ℕ) (before log : Log) (wrote : log ≡ Object (Replace d o new cell (words_by first many)) ∷ before) (run : IsLiveRun qsbr tabled log) where
   abbrev event : LiveEvent
@@ -122,7 +117,7 @@ module _ (qsbr : Bool) (d : ℕ) (o new : ObjectId) (cell first many : ℕ) (bef
     linked = subst (λ (l : List ObjectId). In l o) (sym alone_before) (inl refl)
 
     directory : IsDirectory (record_of before o)
-    directory = directory_by before o old_first old_many words
+    directory = by_words (record_of before o) old_first old_many words
 
     pub alone_after : (state_of log).chain d ≡ new ∷ []
     alone_after = ap (λ (l : Log). (state_of l).chain d) wrote ∙ (at_number_same d (replaced o new ((state_of before).chain d)) (state_of before).chain ∙ replaced_only o o new ((state_of before).chain d) alone_before refl)

@@ -1,30 +1,58 @@
 -- What is left of directories that were replaced.
-use base.Stored.{Gv}
-use Rattle.std.proofs.Common.{Bool, ◌≡◌, ◌⊎◌, ⊎_elim, ℕ, ◌+◌, ◌<◌, ◌≤◌, List, [], ◌∷◌, ◌++◌, Option, None, Some, IfNone, IsSome, length, map, option_map, slice_index_or, inl, inr, refl, sym, ap, ◌∙◌, subst, arith}
-use Rattle.std.proofs.Math.Logic.{∥∥₁_map}
-use Rattle.std.proofs.lemmas.Bool.{cases_lt}
-use Rattle.std.proofs.lemmas.List.{map-append}
-use Rattle.rcu_model.specs.declared.event.ObjectId.{ObjectId}
-use Rattle.rcu_model.specs.Sets.{In}
-use Rattle.rcu_model.proofs.Lemmas.{in_objects}
-use Rattle.live_log.specs.declared.event.LiveEvent.{LiveEvent}
-use Rattle.live_log.specs.declared.event.LiveEvent.TheVariants.{ChainNote, Object}
-use Rattle.live_log.specs.declared.event.ObjectEvent.TheVariants.{Push, Queue, Replace, Retire}
-use Rattle.live_log.specs.Log.{Log, Begins, Has, IsLiveRun, record_of, state_of}
-use Rattle.live_log.specs.Tables.{IsDirectory, Names, tabled}
-use Rattle.live_log.proofs.Lemmas.{begins_trans, beside, chain_used, directory_alone, gone, has_since, linked_between, note_stays, run_of}
-use Rattle.rcu_list.specs.live_rule.declared.view.View.{View}
-use Rattle.rcu_list.specs.live_items.Retiring.{Queues}
-use Rattle.rcu_list.specs.live_table.Rights.{IsListed, own_in}
-use Rattle.rcu_list.specs.live_write.Chains.{list_in}
-use Rattle.rcu_list.proofs.Lemmas.{chain_known}
-use Rattle.rcu_list.specs.domain.Waiting.{LoadedOnce, Synchronized}
-use Rattle.rcu_hash.specs.Leaving.{Writes}
-use Rattle.rcu_hash.specs.Naming.{words_by}
-use Rattle.rcu_hash.specs.Tidying.{IsLinked, IsRest, IsTidied, LeavesOnly, WasCleared, chains_in}
-use Rattle.rcu_hash.specs.Writers.{AreFrom}
-use Rattle.rcu_hash.proofs.Emptying.{by_words}
-use Rattle.rcu_hash.proofs.Redirected.{stays_directed}
+use Rattle.rcu_hash.proofs.Cited.Words.{Bool, ◌≡◌, ◌≢◌, ℕ, ◌+◌, ◌≤◌, List, [], ◌∷◌, ◌++◌, length, refl, sym, ap, ◌∙◌, subst, inl, ⊎_elim, arith, zero, suc, length-append, ObjectId, In, replaced, at_number_same, in_objects, replaced_there, Object, Replace, Log, Begins, IsLiveRun, record_of, state_of, IsDirectory, IsReplaced, tabled, begins_trans, chain_used, linked_or_replaced, note_stays, replaced_note, run_of, Gv, ◌⊎◌, ◌<◌, Option, None, Some, IfNone, IsSome, map, option_map, slice_index_or, inr, ∥∥₁_map, cases_lt, map-append, at_object_same, some_is, LiveEvent, ChainNote, Push, Queue, Retire, Has, Names, beside, directory_alone, gone, has_since, linked_between, View, Queues, IsListed, own_in, list_in, chain_known, LoadedOnce, Synchronized, Writes, words_by, IsLinked, IsRest, IsTidied, LeavesOnly, WasCleared, WasReplaced, chains_in, AreFrom}
+use Rattle.rcu_hash.proofs.Emptying.{replaced_later}
+use Rattle.rcu_hash.proofs.Named.{by_words}
+
+module _ (qsbr : Bool) where
+  -- a directory that took the place of another one is linked, and is a directory
+  module _ (before : Log) (d : ℕ) (old new : ObjectId) (cell : ℕ) (payload : List ℕ) (run : IsLiveRun qsbr tabled (Object (Replace d old new cell payload) ∷ before)) (directory : IsDirectory (record_of before old)) where
+    abbrev taken : Log
+    taken = Object (Replace d old new cell payload) ∷ before
+
+    took_place : In ((state_of taken).chain d) new
+    took_place = subst (λ (l : List ObjectId). In l new) (sym (at_number_same d (replaced old new ((state_of before).chain d)) (state_of before).chain)) (replaced_there old new ((state_of before).chain d) (in_objects ((state_of before).chain d) old run.0.0.0))
+
+    is_directory : IsDirectory (record_of taken new)
+    is_directory = subst IsDirectory (sym (replaced_note qsbr tabled taken d old new cell payload run (inl refl))) (⊎_elim
+        (λ k. let zero_kind = k.1 in let one_kind = directory.0 in absurd (omega arith))
+        (λ k. k.0)
+        run.0.1.1)
+
+  -- one that replaced it later came after less
+  module _ (since before log : Log) (d : ℕ) (old new : ObjectId) (cell : ℕ) (payload : List ℕ) (is : log ≡ since ++ Object (Replace d old new cell payload) ∷ before) (run : IsLiveRun qsbr tabled log) (directory : IsDirectory (record_of before old)) (r : IsReplaced (Object (Replace d old new cell payload) ∷ before) log d new) where
+    abbrev then : Log
+    then = Object (Replace d old new cell payload) ∷ before
+
+    comes_after : length r.since + 1 ≤ length since
+    comes_after =
+        let one : length log ≡ length since + length then = ap length is ∙ length-append since then in
+        let z : Log = Object (Replace d new r.new r.cell r.payload) ∷ r.before in
+        let two : length log ≡ length r.since + length z = ap length r.is ∙ length-append r.since z in
+        let three : length r.before ≡ length r.after.0 + length then = ap length r.after.1 ∙ length-append r.after.0 then in
+        let four : length z ≡ length r.before + 1 = omega arith in omega arith
+
+    is_directory_still : IsDirectory (record_of r.before new)
+    is_directory_still =
+        let step : IsLiveRun qsbr tabled then = run_of qsbr tabled then log (since, is) run in
+        let goes : Begins r.before log = begins_trans r.before (Object (Replace d new r.new r.cell r.payload) ∷ r.before) log (Object (Replace d new r.new r.cell r.payload) ∷ [], refl) (r.since, r.is) in
+        let same = note_stays qsbr tabled then r.before new r.after (run_of qsbr tabled r.before log goes run) (chain_used qsbr tabled then d new step (took_place before d old new cell payload step directory)) in
+        subst IsDirectory (sym same) (is_directory before d old new cell payload step directory)
+
+  -- where a directory was replaced there is one still
+  pub stays_directed : (n : ℕ) (since before log : Log) (d : ℕ) (old new : ObjectId) (cell : ℕ) (payload : List ℕ) → length since ≤ n → log ≡ since ++ Object (Replace d old new cell payload) ∷ before → IsLiveRun qsbr tabled log → IsDirectory (record_of before old) → (state_of log).chain d ≢ []
+  stays_directed zero since before log d old new cell payload short is run directory none =
+      let x : Log = Object (Replace d old new cell payload) ∷ before in
+      let step : IsLiveRun qsbr tabled x = run_of qsbr tabled x log (since, is) run in ⊎_elim
+      (λ (h : In ((state_of log).chain d) new). absurd (subst (λ (l : List ObjectId). In l new) none h))
+      (λ (r : IsReplaced x log d new). let less = comes_after since before log d old new cell payload is run directory r in absurd (omega arith))
+      (linked_or_replaced qsbr x log d new (since, is) run (took_place before d old new cell payload step directory) (is_directory before d old new cell payload step directory))
+  stays_directed (suc m) since before log d old new cell payload short is run directory none =
+      let x : Log = Object (Replace d old new cell payload) ∷ before in
+      let step : IsLiveRun qsbr tabled x = run_of qsbr tabled x log (since, is) run in ⊎_elim
+      (λ (h : In ((state_of log).chain d) new). absurd (subst (λ (l : List ObjectId). In l new) none h))
+      (λ (r : IsReplaced x log d new). let less = comes_after since before log d old new cell payload is run directory r in
+      stays_directed m r.since r.before log d new r.new r.cell r.payload (omega arith) r.is run (is_directory_still since before log d old new cell payload is run directory r) none)
+      (linked_or_replaced qsbr x log d new (since, is) run (took_place before d old new cell payload step directory) (is_directory before d old new cell payload step directory))
 
 -- a list without its first entry
 abbrev rest : Log → Log
@@ -130,19 +158,17 @@ chains_more (u ∷ vs) v c h = ⊎_elim (λ (one : In (chains_in (u ∷ vs)) c).
 pub chains_pushed : {X : Type 0} (xs all : List X) (x : X) (f : X → View) (c : ℕ) → all ≡ xs ++ x ∷ [] → In (chains_in (map f xs)) c ⊎ ((own_in (f x).chains).chain ≡ c) → In (chains_in (map f all)) c
 chains_pushed xs all x f c is h = subst (λ (vs : List View). In (chains_in vs) c) (sym (ap (map f) is ∙ map-append f xs (x ∷ []))) (chains_more (map f xs) (f x) c h)
 
--- what is left, where more may be
-pub rest_more : (d : ℕ) (o : ObjectId) (vs ws : List View) (old : Option ObjectId) (log : Log) → ((c : ℕ) → In (chains_in vs) c → In (chains_in ws) c) → IsRest d o vs old log → IsRest d o ws old log
-rest_more d o vs ws old log goes rest = ∥∥₁_map rest (λ r. (r.0, only_weaker d log (In (chains_in vs)) (In (chains_in ws)) (λ p. old ≡ Some p) (λ p. old ≡ Some p) goes (λ p is. is) r.1))
-
--- and in a later log, where some of it was cleared and retired
-pub rest_less : (qsbr : Bool) (d : ℕ) (o : ObjectId) (vs ws : List View) (old new : Option ObjectId) (start log : Log) → Begins start log → IsLiveRun qsbr tabled log → IsLinked d o log → ((c : ℕ) → In (chains_in vs) c → WasCleared start c log ⊎ In (chains_in ws) c) → ((p : ObjectId) → old ≡ Some p → Has (Object (Retire p)) log ⊎ (new ≡ Some p)) → IsRest d o vs old start → IsRest d o ws new log
-rest_less qsbr d o vs ws old new start log b run linked clears retires rest = ∥∥₁_map rest (λ r. (
+-- what is left in a later log, where some of it was cleared and retired
+pub rest_less : (qsbr : Bool) (d : ℕ) (o : ObjectId) (vs ws : List View) (old new : Option ObjectId) (start log : Log) → Begins start log → IsLiveRun qsbr tabled log → IsLinked d o log → ((first : ℕ) → AreFrom first vs → AreFrom first ws) → ((p : ObjectId) → new ≡ Some p → old ≡ Some p) → ((c : ℕ) → In (chains_in vs) c → WasCleared start c log ⊎ In (chains_in ws) c) → ((p : ObjectId) → old ≡ Some p → Has (Object (Retire p)) log ⊎ (new ≡ Some p)) → IsRest d o vs old start → IsRest d o ws new log
+rest_less qsbr d o vs ws old new start log b run linked row kept clears retires rest = ∥∥₁_map rest (λ r. (
   linked,
   only_less qsbr start log d o b run r.0 linked.0 (In (chains_in vs)) (In (chains_in ws)) (λ p. old ≡ Some p) (λ p. new ≡ Some p) clears retires r.1,
+  (r.2.0, row r.2.0 r.2.1),
+  λ p is. replaced_later d p start log b (r.3 p (kept p is)),
 ))
 
 pub rest_later : (qsbr : Bool) (d : ℕ) (o : ObjectId) (vs : List View) (old : Option ObjectId) (start log : Log) → Begins start log → IsLiveRun qsbr tabled log → IsLinked d o log → IsRest d o vs old start → IsRest d o vs old log
-rest_later qsbr d o vs old start log b run linked rest = rest_less qsbr d o vs vs old old start log b run linked (λ c h. inr h) (λ p is. inr is) rest
+rest_later qsbr d o vs old start log b run linked rest = rest_less qsbr d o vs vs old old start log b run linked (λ first from. from) (λ p is. is) (λ c h. inr h) (λ p is. inr is) rest
 
 -- nothing is
 pub rest_none : (d : ℕ) (o : ObjectId) (vs : List View) (old : Option ObjectId) (log : Log) → vs ≡ [] → ((p : ObjectId) → old ≡ Some p → ⊥) → IsRest d o vs old log → IsTidied d log
@@ -182,6 +208,7 @@ rest_replaced qsbr d o new left first buckets vs start seen heard log cell paylo
     let goes : Begins start w.before = begins_trans start heard w.before b w.after.1 in
     let run : IsLiveRun qsbr tabled w.before = run_of qsbr tabled w.before log (Object (Replace d o new cell payload) ∷ [], w.wrote) w.run in
     let here : In ((state_of w.before).chain d) o = subst (λ (l : List ObjectId). In l o) (sym alone) (inl refl) in
+    let directory : IsDirectory (cell, payload) = subst IsDirectory (ap (λ (l : Log). record_of l new) w.wrote ∙ at_object_same new (cell, payload) (record_of w.before)) now.1 in
     ∥∥₁_map tidied (λ none. (
       now,
       only_weaker d log (Names (record_of w.before o)) (In (chains_in vs)) (λ p. o ≡ p) (λ p. Some left ≡ Some p)
@@ -190,6 +217,8 @@ rest_replaced qsbr d o new left first buckets vs start seen heard log cell paylo
           from_has first c vs from low (omega (arith, high, many)))
           (λ p same. ap Some (is ∙ same))
           (only_left d w.before log o new cell payload w.wrote (only_less qsbr start w.before d o goes run linked here (λ c. ⊥) (λ c. ⊥) (λ p. ⊥) (λ p. ⊥) (λ c no. absurd no) (λ p no. absurd no) none)),
+      (first, from),
+      λ p same. subst (λ (r : ObjectId). WasReplaced d r log) (sym is ∙ some_is left p same) ∣ (new, cell, payload, directory, subst (Has (Object (Replace d o new cell payload))) (sym w.wrote) (inl refl)) ∣₁,
     ))
 
 pub not_none : {A X : Type 0} (r : Option A) → r ≡ None → IsSome r → X

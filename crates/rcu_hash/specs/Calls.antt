@@ -30,8 +30,8 @@ module _ {W S : Type 0} (w : Ghosts W S) (qsbr : Bool) (sizes : Sizes) (old new 
   abbrev pub IsRemovedThrough : (key ticket : ℕ) (callback : Gv) → Type 0
   IsRemovedThrough key ticket callback = (chain : ℕ) × (left : ObjectId) × (published : Log) × RemovesThrough qsbr tabled sizes.chains d (w.seen old) (w.heard old) key chain left published × HandsOver qsbr tabled left (chain % sizes.queues) ticket callback published (w.heard new) × MakesLast w old new published
 
-  -- Another directory, which names these chains, took the place of the old one, which left so many records. Of that the
-  -- caller made a change for each copy, for each bucket of both, and for the directory.
+  -- Another directory, which names these chains, took the place of the old one, which left this many records. Of that
+  -- the caller made a change for each copy, for each bucket of both, and for the directory.
   abbrev pub IsGrown : (first buckets left : ℕ) → Type 0
   IsGrown first buckets left = (entries : List (ℕ × ℕ)) × (g : Grows qsbr tabled sizes.chains d (w.seen old) (w.heard old) first buckets entries (w.heard new)) × (left ≡ length entries + 1) × (fits sizes.chains d first buckets ≡ true)
       × MakesMany w old new (length entries + buckets + buckets_in (record_of g.left g.old) + 1)

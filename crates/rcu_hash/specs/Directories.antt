@@ -24,7 +24,7 @@ buckets_in x = slice_index_or x.1 1 0
 abbrev pub bucket_in : ℕ × List ℕ → ℕ → ℕ
 bucket_in x key = bucket_of (first_in x) (buckets_in x) key
 
--- a directory's words, with a bucket for the key among so many chains
+-- a directory's words, with a bucket for the key among this many chains
 abbrev pub leads_to : (chains kind first buckets key : ℕ) → Bool
 leads_to chains kind first buckets key = (kind == 1) && (nat_lt 0 buckets && nat_lt (bucket_of first buckets key) chains)
 
@@ -40,7 +40,7 @@ value_through chains log (Some o) key = if leads chains (record_of log o) key th
 abbrev pub LeadsTo : ℕ → Log → ℕ → ℕ → Type 0
 LeadsTo d log key c = (o : ObjectId) × (first_of ((state_of log).chain d) ≡ Some o) × (bucket_in (record_of log o) key ≡ c)
 
--- the map of the table whose directory is in chain d, over a domain of so many chains
+-- the map of the table whose directory is in chain d, over a domain of this many chains
 abbrev pub directed_map : ℕ → ℕ → Log → ℕ → Option ℕ
 directed_map chains d log = value_through chains log (first_of ((state_of log).chain d))
 
@@ -67,12 +67,12 @@ pub record WalksThrough (seen heard new : Log) (chains d : ℕ) (met : List (ℕ
   pub had : (key value : ℕ) → In met (key, value) → AnswersThrough seen heard new chains d key (Some value)
   pub lacked : (key : ℕ) → times key met ≢ 1 → AnswersThrough seen heard new chains d key None
 
--- no key has a value in the table, and each is led to its bucket, among so many chains from the first one on
+-- no key has a value in the table, and each is led to its bucket, among this many chains from the first one on
 abbrev pub HasNoKeys : (chains d first buckets : ℕ) → Log → Type 0
 HasNoKeys chains d first buckets log = (key : ℕ) → (directed_map chains d log key ≡ None) × LeadsTo d log key (bucket_of first buckets key)
 
--- What a key has in the bucket to which a directory leads it, the table had while the directory was linked, as long as a
--- section is open that was open then.
+-- A bucket answers for its table. Take a section that was open while a directory was linked, and is open still. What a
+-- key has then in the directory's bucket, the table's map had while the directory was linked.
 abbrev pub BucketsAnswer : Bool → Type 0
 BucketsAnswer qsbr = (start at log : Log) (chains d key : ℕ) (o : ObjectId) (slot ordinal copied : ℕ) → Begins start at → Begins at log → IsLiveRun qsbr tabled log → first_of ((state_of start).chain d) ≡ Some o → IsTrue (leads chains (record_of start o) key) → open_of slot start ≡ some (ordinal, copied) → ¬ Has (Close slot ordinal) log → AnswersLinked start at chains d key o (map_of at (bucket_in (record_of start o) key) key)
 

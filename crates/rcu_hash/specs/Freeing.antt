@@ -27,7 +27,7 @@ FreesAllBut key kept found = (i : ℕ) → In kept i ⊎ IsLeftZero (cell_at key
 abbrev pub Frees : Sizes → List ℕ → List Look → Type 0
 Frees key cells found = (before : List Look) → FreesAllBut key cells before → FreesAll key (found ++ before)
 
--- so many records, at most, were taken and not freed
+-- this many records, at most, were taken and not freed
 abbrev pub KeepsMany : Sizes → ℕ → List Look → Type 0
 KeepsMany key many found = (kept : List ℕ) × (length kept ≡ many) × FreesAllBut key kept found
 

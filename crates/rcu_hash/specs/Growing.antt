@@ -34,7 +34,7 @@ module _ (Tells : Log → LiveEvent → Log → Type 0) (first buckets : ℕ) wh
   CopiesAll rank heard [] log = Begins heard log
   CopiesAll rank heard (e ∷ es) log = (at : Log) × CopiesKey rank heard e at × CopiesAll (rank + 1) at es log
 
--- so many chains, from the first one on, got this note, in their order
+-- this many chains, from the first one on, got this note, in their order
 abbrev pub NotesAll : (Log → LiveEvent → Log → Type 0) → (note first many : ℕ) → Log → Log → Type 0
 NotesAll Tells note first zero heard log = Begins heard log
 NotesAll Tells note first (suc many) heard log = (at : Log) × Tells heard (ChainNote first note) at × NotesAll Tells note (first + 1) many at log

@@ -13,7 +13,7 @@ module _ (qsbr : Bool) (allows : Log → LiveEvent → Type 0) where
     pub after : Begins seen before × Begins heard before
     pub run : IsLiveRun qsbr allows log
 
-  -- and the map of the table whose directory is in chain d, over a domain of so many chains, is as it was
+  -- and the map of the table whose directory is in chain d, over a domain of this many chains, is as it was
   pub record LeavesMap (chains d : ℕ) (seen heard : Log) (event : LiveEvent) (log : Log) : Type 0 where
     pub writes : Writes seen heard event log
     pub map : (key : ℕ) → directed_map chains d log key ≡ directed_map chains d writes.before key

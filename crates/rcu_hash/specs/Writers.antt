@@ -23,10 +23,14 @@ abbrev pub rights_of : List View → List ChainRight
 rights_of [] = []
 rights_of (v ∷ vs) = own_in v.chains ∷ rights_of vs
 
--- of each right the chain's number, and how many objects it links
+-- of a right the chain's number, and how many objects it links
+abbrev pub length_of : ChainRight → ℕ × ℕ
+length_of x = (x.chain, length x.objects)
+
+-- of each one
 abbrev pub lengths_of : List ChainRight → List (ℕ × ℕ)
 lengths_of [] = []
-lengths_of (x ∷ xs) = (x.chain, length x.objects) ∷ lengths_of xs
+lengths_of (x ∷ xs) = length_of x ∷ lengths_of xs
 
 -- no chain was lent to it
 abbrev pub IsAlone : View → Type 0
@@ -61,7 +65,7 @@ IsEmpty v = HasNothing v × HasNoNote v
 abbrev pub HasKeysIn : View → Type 0
 HasKeysIn v = (o : ObjectId) → In (list_in v) o → HasKey (record_of v.seen o)
 
--- its chain is none of these, so many from the first one on
+-- its chain is none of these, this many from the first one on
 abbrev pub IsOutside : ℕ → ℕ → View → Type 0
 IsOutside first many v = ((own_in v.chains).chain < first) ⊎ (first + many ≤ (own_in v.chains).chain)
 
@@ -94,12 +98,3 @@ each_prop P p (x ∷ xs) = ×_prop (p x) (each_prop P p xs)
 pub some_prop : {X : Type 0} (P : X → Type 0) → ((x : X) → IsProp (P x)) → (r : Option X) → IsProp (IfSome r P)
 some_prop P p None = hlevel props
 some_prop P p (Some x) = p x
-
-pub alone_prop : (v : View) → IsProp (IsAlone v)
-alone_prop v = hlevel props
-
-pub keys_prop : (v : View) → IsProp (HasKeysIn v)
-keys_prop v = hlevel props
-
-pub note_prop : (note : ℕ) (v : View) → IsProp (HasNote note v)
-note_prop note v = hlevel props

@@ -28,8 +28,7 @@ impl<'d, P: GracePlan + Drop, B: Site, D: Deleter> BucketArray<'d, P, B, D> {
         (key % self.naming.buckets as u64) as usize
     }
 
-    /// A bucket out of its lock, to which it is to be given back. A lock tells only the type of what it holds, so the
-    /// bucket's number is compared; it always is the right one.
+    /// A bucket out of its lock, to which it is to be given back.
     pub(crate) fn take<'t, R: Wait>(
         &'t self,
         rt: &R,

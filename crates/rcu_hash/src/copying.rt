@@ -104,7 +104,7 @@ impl<'d, P: GracePlan + Drop, B: Site, D: Deleter> Bucket<'d, P, B, D> {
     }
 }
 
-/// Frees the records. The caller hears of that. It never waits.
+/// Frees the records. The caller hears of that.
 pub(crate) fn discard_all<P: GracePlan + Drop, B: Site, D: Deleter, W: Caller<B>>(
     domain: &Domain<P, Tabled, B, D>,
     caller: &mut W,
@@ -132,7 +132,7 @@ pub(crate) fn discard_all<P: GracePlan + Drop, B: Site, D: Deleter, W: Caller<B>
 }
 
 /// Each record becomes the first of its key's chain, in their order: of as many buckets as there are chains. The caller
-/// hears of that. It never waits.
+/// hears of that.
 pub(crate) fn fill<'d, P: GracePlan + Drop, B: Site, D: Deleter, W: Caller<B>>(
     chains: &mut Vec<Chain<'d, P, Tabled, B, D>>,
     caller: &mut W,

@@ -1,13 +1,13 @@
 //! The writer of a table's directory, and its lock.
 
 ghost use Rattle.std.specs.Prelude.{ℕ, ◌≡◌, ◌≢◌, ◌+◌, ◌^◌, ◌<◌, ◌≤◌, ◌∷◌, [], true};
-ghost use Rattle.rcu_model.specs.Sets.{In};
-ghost use Rattle.live_log.specs.Log.{Begins, IsLiveRun, chain_note, record_of, state_of};
+ghost use Rattle.live_log.specs.Log.{Begins, IsLiveRun, chain_note, record_of};
 ghost use Rattle.live_log.specs.Tables.{tabled};
 ghost use Rattle.rcu_list.specs.live_rule.Seats.{lent_chains};
-ghost use Rattle.rcu_list.specs.live_table.Rights.{AreAsKnown, own_in};
+ghost use Rattle.rcu_list.specs.live_table.Rights.{own_in};
 ghost use Rattle.rcu_list.specs.live_read.Hearing.{IsAfter, OnlyHears};
 ghost use Rattle.rcu_list.specs.live_write.Chains.{list_in};
+ghost use Rattle.rcu_hash.specs.Buckets.{HasRight};
 ghost use Rattle.rcu_hash.specs.Naming.{words_by};
 ghost use Rattle.rcu_hash.specs.Tables.{IsAmong};
 ghost use Rattle.rcu_hash.specs.Tidying.{IsLinked};
@@ -62,30 +62,10 @@ pub(crate) struct LentDirectory<'d, P: GracePlan, B: Site, D: Drop> {
     pub(crate) ghost fits: { (0 < naming.buckets) × (naming.first + naming.buckets ≤ B.sizes.chains) × (naming.directory + 1 < 2 ^ 63) },
 }
 
-impl<'d, P: GracePlan, B: Site, D: Deleter> Directory<'d, P, B, D> {
-    /// Lends its right to a bucket's writer, for one step. It never waits.
-    pub(crate) fn lend(self, to: &mut Chain<'_, P, Tabled, B, D>) -> LentDirectory<'d, P, B, D>
-        requires { lent_chains to.old.seat.me.0.chains ≡ [] }
-        ensures naming { result.naming ≡ self.entry.naming }
-        ensures chains { (to.new.seat.me.0.chains ≡ own_in to.old.seat.me.0.chains ∷ own_in self.entry.chain.seat.me.0.chains ∷ []) × (to.new.number ≡ to.old.number) × (to.new.home.now ≡ to.old.home.now) }
-        ensures known { AreAsKnown to.new.seat.me.0.seen to.new.seat.me.0.chains }
-        ensures later { Begins to.old.seat.me.0.seen to.new.seat.me.0.seen × Begins self.entry.chain.seat.me.0.seen to.new.seat.me.0.seen × IsLiveRun P.QSBR tabled to.new.seat.me.0.seen }
-        ensures words { (record_of to.new.seat.me.0.seen self.entry.naming.object).1 ≡ words_by self.entry.naming.first self.entry.naming.buckets }
-    {
-        let Directory { chain, naming } = self;
-        LentDirectory {
-            lent: chain.lend(to),
-            naming,
-        }
-    }
-}
-
 impl<'d, P: GracePlan, B: Site, D: Deleter> LentDirectory<'d, P, B, D> {
     /// Takes its right back from a bucket's writer, which knows its own chain alone then. It never waits.
     pub(crate) fn take_back(self, from: &mut Chain<'_, P, Tabled, B, D>) -> Directory<'d, P, B, D>
-        requires right { (lent_chains from.old.seat.me.0.chains ≡ own_in (lent_chains from.old.seat.me.0.chains) ∷ []) × ((own_in (lent_chains from.old.seat.me.0.chains)).chain ≡ self.naming.directory) × ((own_in (lent_chains from.old.seat.me.0.chains)).objects ≡ self.naming.object ∷ []) × ((own_in (lent_chains from.old.seat.me.0.chains)).note ≡ 0) }
-        requires words { (record_of from.old.seat.me.0.seen self.naming.object).1 ≡ words_by self.naming.first self.naming.buckets }
-        requires used { In (state_of from.old.seat.me.0.seen).used self.naming.object }
+        requires { HasRight self.naming from.old.seat.me.0 }
         ensures naming { (result.naming ≡ self.entry.naming) × (result.chain.seat.me.0.chains ≡ lent_chains from.old.seat.me.0.chains) }
         ensures from { (from.new.seat.me.0.chains ≡ own_in from.old.seat.me.0.chains ∷ []) × (from.new.seat.me.0.seen ≡ from.old.seat.me.0.seen) × (from.new.number ≡ from.old.number) × (from.new.home.now ≡ from.old.home.now) }
         ensures later { Begins from.old.seat.me.0.seen result.chain.seat.me.0.seen × IsLiveRun P.QSBR tabled result.chain.seat.me.0.seen }
@@ -99,7 +79,7 @@ impl<'d, P: GracePlan, B: Site, D: Deleter> LentDirectory<'d, P, B, D> {
 }
 
 impl<'d, P: GracePlan + Drop, B: Site, D: Deleter> Directory<'d, P, B, D> {
-    /// The caller hears of a log in which it is linked, and the chains that it names have notes. It never waits.
+    /// The caller hears of a log in which it is linked, and the chains that it names have notes.
     pub(crate) fn hear<W: Caller<B>>(&mut self, caller: &mut W)
         ensures linked { IsLinked self.old.naming.directory self.old.naming.object (W.heard caller.new) }
         ensures noted { (c : ℕ) → IsAmong self.old.naming.first self.old.naming.buckets c → chain_note c (W.heard caller.new) ≢ 0 }
@@ -118,8 +98,7 @@ pub(crate) struct DirectoryLock<'d, P: GracePlan, B: Site, D: Drop> {
 }
 
 impl<'d, P: GracePlan + Drop, B: Site, D: Deleter> DirectoryLock<'d, P, B, D> {
-    /// The writer of this directory, which is linked, out of its lock, to which it is to be given back. A lock tells
-    /// only the type of what it holds, so the directory is compared; it always is the right one.
+    /// The writer of this directory, which is linked, out of its lock, to which it is to be given back.
     pub(crate) fn take<'t, R: Wait>(
         &'t self,
         rt: &R,
@@ -140,6 +119,29 @@ impl<'d, P: GracePlan + Drop, B: Site, D: Deleter> DirectoryLock<'d, P, B, D> {
             }
         }
         unreachable!()
+    }
+
+    /// Lends its right to the writer of another chain, for one step, while the lock is held. It waits for the lock.
+    pub(crate) fn lend<'t, R: Wait>(
+        &'t self,
+        rt: &R,
+        naming: Naming,
+        to: &mut Chain<'_, P, Tabled, B, D>,
+    ) -> (
+        MutexGuard<'t, Option<Directory<'d, P, B, D>>>,
+        LentDirectory<'d, P, B, D>,
+    )
+        requires { lent_chains to.old.seat.me.0.chains ≡ [] }
+        ensures naming { result.1.naming ≡ naming }
+        ensures fits { (0 < naming.buckets) × (naming.first + naming.buckets ≤ B.sizes.chains) × (naming.directory + 1 < 2 ^ 63) }
+        ensures right { HasRight naming to.new.seat.me.0 }
+        ensures own { (own_in to.new.seat.me.0.chains ≡ own_in to.old.seat.me.0.chains) × (to.new.number ≡ to.old.number) × (to.new.home.now ≡ to.old.home.now) }
+        ensures later { Begins to.old.seat.me.0.seen to.new.seat.me.0.seen × IsLiveRun P.QSBR tabled to.new.seat.me.0.seen }
+    {
+        let (place, directory) = self.take(rt, naming);
+        let Directory { chain, naming: its } = directory;
+        let lent = chain.lend(to);
+        (place, LentDirectory { lent, naming: its })
     }
 
     /// The caller hears of a log in which this directory is linked, and the chains that it names have notes. It waits for

@@ -30,9 +30,9 @@ pub(crate) struct Lenders<'d, P: GracePlan, B: Site, D: Drop> {
     pub(crate) ghost room: { (lents.items ≡ []) × (vec_len chains ≤ vec_capacity lents) × (back.items ≡ []) × (vec_len chains ≤ vec_capacity back) },
 }
 
-/// Another directory, for which the second chains are reserved, takes the place of this one, which names the first ones,
-/// and has left them; for that they all lend it their rights. Answers it, the record that it replaced, and the writers. The caller hears of that.
-/// It never waits.
+/// Another directory, for which the second chains are reserved, takes the place of this one, which names the first
+/// ones, and has left them; for that they all lend it their rights. Answers it, the record that it replaced, and the
+/// writers. The caller hears of that.
 pub(crate) fn exchange<'d, P: GracePlan + Drop, B: Site, D: Deleter, W: Caller<B>>(
     directory: Directory<'d, P, B, D>,
     olds: Lenders<'d, P, B, D>,

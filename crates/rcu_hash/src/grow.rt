@@ -34,7 +34,7 @@ use rcu_model::Refusal;
 use std::alloc::Global;
 use std::sync::{RwLockWriteGuard, Wait};
 
-/// Whether these chains, so many from the first one on, are none of those that the directory names.
+/// Whether these chains, this many from the first one on, are none of those that the directory names.
 fn are_apart(naming: Naming, first: usize, buckets: usize) -> bool
     requires { (first + buckets < 2 ^ 64) × (naming.first + naming.buckets < 2 ^ 64) }
     ensures { result ≡ are_apart naming.first naming.buckets first buckets }
@@ -43,7 +43,7 @@ fn are_apart(naming: Naming, first: usize, buckets: usize) -> bool
 }
 
 /// The writers of the buckets' chains, which the directory leaves: each gets the table's note. There is room for them.
-/// The caller hears of that. It never waits.
+/// The caller hears of that.
 fn leave_all<'d, P: GracePlan + Drop, B: Site, D: Deleter, W: Caller<B>>(
     taken: Vec<Bucket<'d, P, B, D>>,
     mut chains: Vec<Chain<'d, P, Tabled, B, D>>,
@@ -139,8 +139,7 @@ fn commit<'d, P: GracePlan + Drop, B: Site, D: Deleter, W: Caller<B>, R: Wait>(
 }
 
 impl<'d, P: GracePlan + Drop, B: Site, D: Deleter> RcuHash<'d, P, B, D> {
-    /// The array of the buckets that this directory names, for their only user. A lock tells only the type of what it
-    /// holds, so the directory is compared; it always is the right one.
+    /// The array of the buckets that this directory names, for their only user.
     fn own_array<'t, R: Wait>(
         &'t self,
         rt: &R,
@@ -206,7 +205,7 @@ impl<'d, P: GracePlan + Drop, B: Site, D: Deleter> RcuHash<'d, P, B, D> {
     }
 
     /// Another directory, which names as many chains as these, from the first one on, takes the place of this one: the
-    /// table has so many buckets from then on, and the same keys with the same values. Lookups go on meanwhile, and
+    /// table has this many buckets from then on, and the same keys with the same values. Lookups go on meanwhile, and
     /// find each key that is there; writers wait. What the old directory left, its record and a record for each key,
     /// stays until `tidy` retires it: the answer is how many these are. The caller hears of the log in which the new
     /// directory came. liburcu's `cds_lfht_resize`.

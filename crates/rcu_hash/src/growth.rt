@@ -26,7 +26,7 @@ use rcu_model::Refusal;
 use std::alloc::Global;
 use std::sync::Wait;
 
-/// Room for the writers and the buckets while they change hands.
+/// Vectors that are allocated before the first event of a growth, so that it cannot fail halfway.
 #[derive(Drop)]
 pub(crate) struct Reserved<'d, P: GracePlan, B: Site, D: Drop> {
     pub(crate) olds: Vec<Chain<'d, P, Tabled, B, D>>,
@@ -38,20 +38,35 @@ pub(crate) struct Reserved<'d, P: GracePlan, B: Site, D: Drop> {
 }
 
 impl<'d, P: GracePlan + Drop, B: Site, D: Deleter> Reserved<'d, P, B, D> {
-    /// Room for so many old ones and so many new ones.
+    /// Room for this many old ones and this many new ones; for the buckets that are taken, and the writers that are held.
     ///
     /// Refused with `Memory` where memory is.
-    fn new(alloc: Global, olds: usize, news: usize) -> Result<Reserved<'d, P, B, D>, Refusal>
-        ensures made { IfOk result (λ r. (olds ≤ vec_capacity r.olds) × (olds ≤ vec_capacity r.returned) × (news ≤ vec_capacity r.noted) × (news ≤ vec_capacity r.named) × (news ≤ vec_capacity r.places)) }
+    fn new(
+        alloc: Global,
+        olds: usize,
+        news: usize,
+    ) -> Result<
+        (
+            Reserved<'d, P, B, D>,
+            Vec<Bucket<'d, P, B, D>>,
+            Vec<Chain<'d, P, Tabled, B, D>>,
+        ),
+        Refusal,
+    >
+        ensures made { IfOk result (λ r. (olds ≤ vec_capacity r.0.olds) × (olds ≤ vec_capacity r.0.returned) × (news ≤ vec_capacity r.0.noted) × (news ≤ vec_capacity r.0.named) × (news ≤ vec_capacity r.0.places)) }
+        ensures room { IfOk result (λ r. (r.1.items ≡ []) × (olds ≤ vec_capacity r.1) × (r.2.items ≡ []) × (news ≤ vec_capacity r.2)) }
         ensures refused { IfErr result (λ e. e ≡ Memory) }
     {
-        Ok(Reserved {
+        let reserved = Reserved {
             olds: room(alloc, olds)?,
             returned: room(alloc, olds)?,
             noted: room(alloc, news)?,
             named: room(alloc, news)?,
             places: room(alloc, news)?,
-        })
+        };
+        let taken = room(alloc, olds)?;
+        let chains = room(alloc, news)?;
+        Ok((reserved, taken, chains))
     }
 }
 
@@ -206,9 +221,8 @@ impl<'d, P: GracePlan + Drop, B: Site, D: Deleter> Growth<'d, P, B, D> {
         ensures same { Stays W.Caller caller.old caller.new }
     {
         let olds = array.naming.buckets;
-        let reserved = Reserved::new(alloc, olds, buckets)?;
-        let mut taken = room(alloc, olds)?;
-        let chains = hold_all(domain, caller, room(alloc, buckets)?, first, buckets)?;
+        let (reserved, mut taken, chains) = Reserved::new(alloc, olds, buckets)?;
+        let chains = hold_all(domain, caller, chains, first, buckets)?;
         let mut copied = Vec::new(alloc);
         if let Err(refusal) = copy_all(rt, array, caller, &mut taken, &mut copied) {
             undo(rt, domain, array, caller, taken, copied);

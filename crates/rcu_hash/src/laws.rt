@@ -3,10 +3,10 @@
 ghost use Rattle.std.specs.Prelude.{Bool};
 ghost use Rattle.rcu_hash.specs.Directories.{BucketsAnswer};
 
-/// What a key has in the bucket to which a directory leads, as long as a section is open that was open when the
-/// directory was linked, it had in the table while the directory was linked: so in that log, or at the latest in the
-/// one in which another directory took its place. A lookup that read a directory answers by the table's map in such a
-/// log, also while the table grows.
+/// A bucket answers for its table. Take a section that was open while a directory was linked, and is open still. What a
+/// key has then in the directory's bucket, the table's map had while the directory was linked: in that log, or at the
+/// latest in the one in which another directory took its place. So a lookup that read a directory answers by the
+/// table's map in such a log, also while the table grows.
 pub fn buckets_answer_for_their_table()
     ensures { (qsbr : Bool) → BucketsAnswer qsbr }
 {}

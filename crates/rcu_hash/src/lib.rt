@@ -1,6 +1,7 @@
 #![tactic(auto)]
 //! Hash tables over the chains of a domain: lookups in read-side sections, which take no lock, beside writers, who take
-//! the lock of one bucket each, and for moments that of the directory.
+//! the lock of one bucket each, and for moments the directory's. A lock tells only the type of what it holds. So who
+//! takes one compares a number or a directory with the wanted one; they always agree.
 
 mod bucket;
 mod bucket_array;
@@ -20,8 +21,8 @@ mod view;
 pub use laws::buckets_answer_for_their_table;
 pub use rcu_list::{
     AnyChain, BarrierMark, Callback, Caller, Chain, ChainRule, Counts, Deleter, Domain, Finished,
-    Handle, Held, Keyed, Lent, ListView, LiveConfig, LiveCookie, MapRule, Opened, Owned, RcuList,
-    Reader, Ripe, Section, Site, Stop, Tabled, Ticket, Unlinked, WorkerEnd,
+    Handle, Held, Item, Job, Keyed, Lent, ListView, LiveConfig, LiveCookie, MapRule, Opened, Owned,
+    RcuList, Reader, Ripe, Section, Site, Stop, Tabled, Ticket, Unlinked, WorkerEnd,
 };
 pub use table::RcuHash;
 pub use tidying::TidyEnd;

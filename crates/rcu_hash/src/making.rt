@@ -32,7 +32,7 @@ use rcu_model::Refusal;
 use std::alloc::Global;
 use std::sync::Mutex;
 
-/// Room for so many.
+/// An empty list with room for this many.
 ///
 /// Refused with `Memory` where memory is.
 pub(crate) fn room<T>(alloc: Global, many: usize) -> Result<Vec<T>, Refusal>
@@ -45,9 +45,34 @@ pub(crate) fn room<T>(alloc: Global, many: usize) -> Result<Vec<T>, Refusal>
     }
 }
 
+/// Room for so many chains, three times, and for so many buckets.
+///
+/// Refused with `Memory` where memory is.
+pub(crate) fn rooms<'d, P: GracePlan + Drop, B: Site, D: Deleter>(
+    alloc: Global,
+    many: usize,
+) -> Result<
+    (
+        Vec<Chain<'d, P, Tabled, B, D>>,
+        Vec<Chain<'d, P, Tabled, B, D>>,
+        Vec<Chain<'d, P, Tabled, B, D>>,
+        Vec<Place<'d, P, B, D>>,
+    ),
+    Refusal,
+>
+    ensures made { IfOk result (λ r. (r.0.items ≡ []) × (many ≤ vec_capacity r.0) × (r.1.items ≡ []) × (many ≤ vec_capacity r.1) × (r.2.items ≡ []) × (many ≤ vec_capacity r.2) × (r.3.items ≡ []) × (many ≤ vec_capacity r.3)) }
+    ensures refused { IfErr result (λ e. e ≡ Memory) }
+{
+    let chains = room(alloc, many)?;
+    let noted = room(alloc, many)?;
+    let back = room(alloc, many)?;
+    let places = room(alloc, many)?;
+    Ok((chains, noted, back, places))
+}
+
 /// The writer of a chain that has none, is empty and has no note: in the log of which the caller hears last.
 ///
-/// Refused with `BadConfig` exactly where it is not. The caller hears of what was seen. It never waits.
+/// Refused with `BadConfig` exactly where it is not. The caller hears of what was seen.
 pub(crate) fn hold_empty<'d, P: GracePlan + Drop, B: Site, D: Deleter, W: Caller<B>>(
     domain: &'d Domain<P, Tabled, B, D>,
     caller: &mut W,
@@ -73,8 +98,7 @@ pub(crate) fn hold_empty<'d, P: GracePlan + Drop, B: Site, D: Deleter, W: Caller
 
 /// The writers of chains that follow one another and have none, are empty and have no note. There is room for them.
 ///
-/// Refused with `BadConfig` where one is not; then all are given back. The caller hears of what was seen. It never
-/// waits.
+/// Refused with `BadConfig` where one is not; then all are given back. The caller hears of what was seen.
 pub(crate) fn hold_all<'d, P: GracePlan + Drop, B: Site, D: Deleter, W: Caller<B>>(
     domain: &'d Domain<P, Tabled, B, D>,
     caller: &mut W,
@@ -97,7 +121,7 @@ pub(crate) fn hold_all<'d, P: GracePlan + Drop, B: Site, D: Deleter, W: Caller<B
 }
 
 /// The chains of these writers, which have no note, are reserved for the object of a record, which comes back. There is
-/// room for the writers. The caller hears of that. It never waits.
+/// room for the writers. The caller hears of that.
 pub(crate) fn reserve_all<'d, P: GracePlan + Drop, B: Site, D: Deleter, W: Caller<B>>(
     chains: Vec<Chain<'d, P, Tabled, B, D>>,
     mut kept: Vec<Chain<'d, P, Tabled, B, D>>,
@@ -128,7 +152,7 @@ pub(crate) fn reserve_all<'d, P: GracePlan + Drop, B: Site, D: Deleter, W: Calle
 
 /// A directory of these chains, which are reserved for it: a push of its record into its own chain, for which they all
 /// lend their rights. There is room for what is left of the writers then, and for them when they have their rights
-/// again. The caller hears of the push. It never waits.
+/// again. The caller hears of the push.
 pub(crate) fn direct<'d, P: GracePlan + Drop, B: Site, D: Deleter, W: Caller<B>>(
     mut chain: Chain<'d, P, Tabled, B, D>,
     chains: Vec<Chain<'d, P, Tabled, B, D>>,
@@ -164,7 +188,7 @@ pub(crate) fn direct<'d, P: GracePlan + Drop, B: Site, D: Deleter, W: Caller<B>>
     (Directory { chain, naming }, back)
 }
 
-/// The buckets of a directory, each under its lock. There is room for them. It never waits.
+/// The buckets of a directory, each under its lock. There is room for them.
 pub(crate) fn into_buckets<'d, P: GracePlan + Drop, B: Site, D: Deleter>(
     chains: Vec<Chain<'d, P, Tabled, B, D>>,
     mut buckets: Vec<Place<'d, P, B, D>>,

@@ -1,12 +1,14 @@
 //! What earlier directories left.
 
-ghost use Rattle.std.specs.Prelude.{◌≡◌, ◌+◌, ◌<◌, IfSome, IsSome, map, option_map, vec_len};
+ghost use Rattle.std.specs.Prelude.{◌≡◌, ◌+◌, ◌^◌, ◌-◌, ◌<◌, IfSome, IsSome, map, min, option_map, vec_len};
+ghost use Rattle.live_log.specs.Log.{Begins};
 ghost use Rattle.live_log.specs.Tables.{tabled};
 ghost use Rattle.rcu_list.specs.live_read.Hearing.{IsAfter, OnlyHears};
-ghost use Rattle.rcu_list.specs.live_table.Rights.{object_in};
+ghost use Rattle.rcu_list.specs.live_table.Rights.{object_in, own_in};
 ghost use Rattle.rcu_hash.specs.Growing.{HasLeft};
-ghost use Rattle.rcu_hash.specs.Tidying.{IsLeft, IsLinked, IsRecord, IsRest, record_prop};
-ghost use Rattle.rcu_hash.specs.Writers.{Each, HasKeysIn, HasNote, IsAlone, IsOutside, alone_prop, each_prop, keys_prop, note_prop, some_prop};
+ghost use Rattle.rcu_hash.specs.Refusing.{During};
+ghost use Rattle.rcu_hash.specs.Tidying.{CountsLeft, IsLeft, IsLinked, IsRecord, IsRest, LinksStill, left_prop, objects_in, one_if, record_prop};
+ghost use Rattle.rcu_hash.specs.Writers.{Each, each_prop, length_of, lengths_of, rights_of, some_prop};
 
 use crate::directory::{DirectoryLock, Naming};
 use gp_memb::GracePlan;
@@ -25,12 +27,23 @@ pub(crate) struct OldTable<'d, P: GracePlan, B: Site, D: Drop> {
     pub(crate) chains: Vec<Chain<'d, P, Tabled, B, D>>,
     pub(crate) handle: Handle<B>,
     pub(crate) ghost some: { IsSome unlinked → 0 < vec_len chains },
-    pub(crate) ghost alone: { Each IsAlone (map (λ c. c.seat.me.0) chains.items) } by { each_prop IsAlone alone_prop _ },
-    pub(crate) ghost keys: { Each HasKeysIn (map (λ c. c.seat.me.0) chains.items) } by { each_prop HasKeysIn keys_prop _ },
-    pub(crate) ghost notes: { Each (HasNote (naming.directory + 1)) (map (λ c. c.seat.me.0) chains.items) } by { each_prop (HasNote (naming.directory + 1)) (note_prop (naming.directory + 1)) _ },
+    pub(crate) ghost left: { Each (IsLeft naming.directory naming.first naming.buckets) (map (λ c. c.seat.me.0) chains.items) } by { each_prop (IsLeft naming.directory naming.first naming.buckets) (left_prop naming.directory naming.first naming.buckets) _ },
     pub(crate) ghost replaced: { IfSome unlinked (λ u. IsRecord naming.directory u.chain u.seat.me.0) } by { some_prop (λ u. IsRecord naming.directory u.chain u.seat.me.0) (λ u. record_prop naming.directory u.chain u.seat.me.0) _ },
-    pub(crate) ghost outside: { ∥ Each (IsOutside naming.first naming.buckets) (map (λ c. c.seat.me.0) chains.items) ∥₁ },
     pub(crate) ghost rest: { IsRest naming.directory naming.object (map (λ c. c.seat.me.0) chains.items) (option_map (λ u. object_in u.seat.me.0.object) unlinked) handle.seat.me.0.heard },
+}
+
+/// How many objects these chains have, with this many others; at most the greatest number.
+fn count_objects<P: GracePlan, B: Site, D: Deleter>(
+    chains: &[Chain<'_, P, Tabled, B, D>],
+    others: usize,
+) -> usize
+    ensures { result ≡ min (others + objects_in (map (λ c. c.seat.me.0) chains.now)) (2 ^ 64 - 1) }
+{
+    let mut many = others;
+    for index in 0..chains.len() {
+        many = many.saturating_add(chains[index].len());
+    }
+    many
 }
 
 impl<'d, P: GracePlan + Drop, B: Site, D: Deleter> DirectoryLock<'d, P, B, D> {
@@ -44,16 +57,36 @@ impl<'d, P: GracePlan + Drop, B: Site, D: Deleter> DirectoryLock<'d, P, B, D> {
         chain: &mut Chain<'_, P, Tabled, B, D>,
     )
         requires chain { IsLeft naming.directory naming.first naming.buckets chain.old.seat.me.0 }
-        ensures left { HasLeft naming.directory (W.heard caller.new) }
+        ensures left { LinksStill naming.directory (length_of (own_in chain.new.seat.me.0.chains)) (W.heard caller.new) }
         ensures heard { IsAfter P.QSBR tabled (W.seen caller.old) (W.heard caller.old) (W.heard caller.new) }
         ensures chain { IsLeft naming.directory naming.first naming.buckets chain.new.seat.me.0 }
+        ensures right { own_in chain.new.seat.me.0.chains ≡ own_in chain.old.seat.me.0.chains }
         ensures number { chain.new.number ≡ chain.old.number }
         ensures same { OnlyHears W.Caller caller.old caller.new }
     {
-        let (mut place, directory) = self.take(rt, naming);
-        let lent = directory.lend(chain);
+        let (mut place, lent) = self.lend(rt, naming, chain);
         chain.hear(caller);
         *place = Some(lent.take_back(chain));
+    }
+
+    /// As `hear_left`, for each of these chains in turn.
+    fn hear_all<W: Caller<B>, R: Wait>(
+        &self,
+        rt: &R,
+        naming: Naming,
+        caller: &mut W,
+        chains: &mut Vec<Chain<'d, P, Tabled, B, D>>,
+    )
+        requires chains { Each (IsLeft naming.directory naming.first naming.buckets) (map (λ c. c.seat.me.0) chains.old.items) }
+        ensures still { Each (λ c. During W.Caller P.QSBR tabled caller.old caller.new (LinksStill naming.directory c)) (lengths_of (rights_of (map (λ c. c.seat.me.0) chains.new.items))) }
+        ensures chains { Each (IsLeft naming.directory naming.first naming.buckets) (map (λ c. c.seat.me.0) chains.new.items) }
+        ensures rights { rights_of (map (λ c. c.seat.me.0) chains.new.items) ≡ rights_of (map (λ c. c.seat.me.0) chains.old.items) }
+        ensures heard { Begins (W.heard caller.old) (W.heard caller.new) }
+        ensures same { OnlyHears W.Caller caller.old caller.new }
+    {
+        for index in 0..chains.len() {
+            self.hear_left(rt, naming, caller, &mut chains[index]);
+        }
     }
 }
 
@@ -118,5 +151,37 @@ impl<'d, P: GracePlan + Drop, B: Site, D: Deleter> OldTable<'d, P, B, D> {
             chains,
             handle,
         }
+    }
+
+    /// How much is left: the objects of the chains, and the record. The caller hears of it, and that nothing else is. It
+    /// waits for the directory's lock.
+    pub(crate) fn count<W: Caller<B>, R: Wait>(
+        self,
+        rt: &R,
+        lock: &DirectoryLock<'d, P, B, D>,
+        caller: &mut W,
+    ) -> (OldTable<'d, P, B, D>, usize)
+        ensures counted { CountsLeft W.Caller P.QSBR tabled caller.old caller.new self.entry.naming.directory (lengths_of (rights_of (map (λ c. c.seat.me.0) self.entry.chains.items))) result.1 }
+        ensures rest { IsRest self.entry.naming.directory self.entry.naming.object (map (λ c. c.seat.me.0) self.entry.chains.items) (option_map (λ u. object_in u.seat.me.0.object) self.entry.unlinked) (W.heard caller.new) }
+        ensures many { result.1 ≡ min (one_if self.entry.unlinked + objects_in (map (λ c. c.seat.me.0) self.entry.chains.items)) (2 ^ 64 - 1) }
+        ensures heard { IsAfter P.QSBR tabled (W.seen caller.old) (W.heard caller.old) (W.heard caller.new) }
+        ensures same { OnlyHears W.Caller caller.old caller.new × (result.0.naming ≡ self.entry.naming) }
+    {
+        let OldTable {
+            naming,
+            unlinked,
+            mut chains,
+            handle,
+        } = self;
+        lock.hear_all(rt, naming, caller, &mut chains);
+        let heard = OldTable {
+            naming,
+            unlinked,
+            chains,
+            handle,
+        };
+        let left = heard.tell(rt, lock, caller);
+        let many = count_objects(&left.chains, left.unlinked.is_some() as usize);
+        (left, many)
     }
 }

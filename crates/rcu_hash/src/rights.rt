@@ -11,7 +11,7 @@ use gp_memb::GracePlan;
 use live_log::Tabled;
 use rcu_list::{Chain, Deleter, Lent, Site};
 
-/// Each lends its right to another chain's writer, in order. There is room for what is left of them. It never waits.
+/// Each lends its right to another chain's writer, in order. There is room for what is left of them.
 pub(crate) fn lend_all<'d, P: GracePlan + Drop, B: Site, D: Deleter>(
     chains: Vec<Chain<'d, P, Tabled, B, D>>,
     mut lents: Vec<Lent<'d, P, Tabled, B, D>>,
@@ -39,7 +39,7 @@ pub(crate) fn lend_all<'d, P: GracePlan + Drop, B: Site, D: Deleter>(
 }
 
 /// Each takes its right back from the writer that they lent them to, in the same order, which may have more that were
-/// lent to it later. There is room for the writers. It never waits.
+/// lent to it later. There is room for the writers.
 pub(crate) fn take_all_back<'d, P: GracePlan + Drop, B: Site, D: Deleter>(
     lents: Vec<Lent<'d, P, Tabled, B, D>>,
     mut chains: Vec<Chain<'d, P, Tabled, B, D>>,

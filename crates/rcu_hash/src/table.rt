@@ -16,7 +16,7 @@ ghost use Rattle.rcu_list.specs.Calls.{TakesOneRecord};
 
 use crate::bucket_array::BucketArray;
 use crate::directory::DirectoryLock;
-use crate::making::{direct, hold_all, hold_empty, into_buckets, reserve_all, room};
+use crate::making::{direct, hold_all, hold_empty, into_buckets, reserve_all, room, rooms};
 use crate::old_table::OldTable;
 use crate::view::TableView;
 use gp_memb::GracePlan;
@@ -29,7 +29,7 @@ use std::sync::{Mutex, RwLock, RwLockReadGuard, Wait};
 /// The most buckets that a table has.
 pub(crate) const MOST_BUCKETS: usize = 4096;
 
-/// Whether a table whose directory is in this chain may have so many buckets, over the chains from the first one on.
+/// Whether a table whose directory is in this chain may have this many buckets, over the chains from the first one on.
 pub(crate) fn fits(chains: usize, directory: usize, first: usize, buckets: usize) -> bool
     ensures { result ≡ fits chains directory first buckets }
 {
@@ -92,10 +92,7 @@ impl<'d, P: GracePlan + Drop, B: Site, D: Deleter> RcuHash<'d, P, B, D> {
             return Err(Refusal::BadConfig);
         }
         let view = TableView::of(domain, directory)?;
-        let chains = room(alloc, buckets)?;
-        let noted = room(alloc, buckets)?;
-        let back = room(alloc, buckets)?;
-        let places = room(alloc, buckets)?;
+        let (chains, noted, back, places) = rooms(alloc, buckets)?;
         let own = hold_empty(domain, caller, directory)?;
         let chains = hold_all(domain, caller, chains, first, buckets)?;
         let lents = room(alloc, buckets)?;
@@ -128,15 +125,14 @@ impl<'d, P: GracePlan + Drop, B: Site, D: Deleter> RcuHash<'d, P, B, D> {
         })
     }
 
-    /// What readers look its keys up by. It never waits.
+    /// What readers look its keys up by.
     pub fn view(&self) -> TableView<B>
         ensures { result.directory ≡ self.now.directory }
     {
         self.view
     }
 
-    /// The array of its buckets, which writers of buckets read. A lock tells only the type of what it holds, so the
-    /// directory's chain is compared; it always is the right one.
+    /// The array of its buckets, which writers of buckets read.
     fn array<'t, R: Wait>(&'t self, rt: &R) -> RwLockReadGuard<'t, BucketArray<'d, P, B, D>>
         ensures { (read_guard_value result).naming.directory ≡ self.now.directory }
     {
@@ -149,10 +145,8 @@ impl<'d, P: GracePlan + Drop, B: Site, D: Deleter> RcuHash<'d, P, B, D> {
         unreachable!()
     }
 
-    /// The value of a key, or none; liburcu's `cds_lfht_lookup`: as `TableView::get`. It never waits and takes no
-    /// memory.
+    /// The value of a key, or none; liburcu's `cds_lfht_lookup`: as `TableView::get`.
     pub fn get(&self, section: &mut Section<'_, P, Tabled, B>, key: u64) -> Option<u64>
-        requires { 0 < section.old.reader.now.core.depth }
         ensures reader { section.new.reader.ghost_name ≡ section.old.reader.ghost_name }
         ensures looked { Looks P.QSBR tabled section.old.reader.now.core section.new.reader.now.core }
         ensures window { AnswersReader section.old.reader.now.core section.new.reader.now.core B.sizes.chains self.now.directory key result }
@@ -164,8 +158,8 @@ impl<'d, P: GracePlan + Drop, B: Site, D: Deleter> RcuHash<'d, P, B, D> {
     /// all that the caller had seen and heard of, and the caller hears of it.
     ///
     /// Refused with `Exists` only where the key had a value in some log of the call, else with `PoolFull` where its
-    /// bucket's ranks are used up, or as `alloc`; then it made no change. It takes no memory, and waits for the locks
-    /// of the table alone, but tries again where other threads draw object numbers meanwhile.
+    /// bucket's ranks are used up, or as `alloc`; then it made no change. It waits for the locks of the table alone,
+    /// but tries again where other threads draw object numbers meanwhile.
     pub fn insert<W: Caller<B>, R: Wait>(
         &self,
         rt: &R,
@@ -235,14 +229,12 @@ impl<'d, P: GracePlan + Drop, B: Site, D: Deleter> RcuHash<'d, P, B, D> {
         answer
     }
 
-    /// Goes through the table, liburcu's `cds_lfht_for_each`: as `TableView::for_each`. It never waits and takes no
-    /// memory.
+    /// Goes through the table, liburcu's `cds_lfht_for_each`: as `TableView::for_each`.
     pub fn for_each<F: FnMut(u64, u64)>(
         &self,
         section: &mut Section<'_, P, Tabled, B>,
         visit: &mut F,
     )
-        requires open_section { 0 < section.old.reader.now.core.depth }
         requires callable { F.IsAlwaysCallable visit.old }
         ensures reader { section.new.reader.ghost_name ≡ section.old.reader.ghost_name }
         ensures looked { Looks P.QSBR tabled section.old.reader.now.core section.new.reader.now.core }

@@ -1,19 +1,21 @@
 //! How what earlier directories left is retired.
 
-ghost use Rattle.std.specs.Prelude.{◌≡◌, ◌⊎◌, ◌+◌, ◌^◌, ◌-◌, ◌<◌, ◌++◌, [], ℕ, List, None, Some, IfErr, IfNone, IfOk, IfSome, IsSome, length, map, min, option_map, vec_len};
+ghost use Rattle.std.specs.Prelude.{◌≡◌, ◌⊎◌, ◌+◌, ◌%◌, ◌^◌, ◌-◌, ◌<◌, ◌++◌, ◌∷◌, [], ℕ, List, None, Some, IfErr, IfNone, IfOk, IfSome, IsSome, length, map, min, option_map, vec_len};
 ghost use Rattle.rcu_model.specs.Sets.{In};
 ghost use Rattle.rcu_model.specs.declared.event.ObjectId.{ObjectId};
 ghost use Rattle.live_log.specs.declared.event.LiveEvent.TheVariants.{Object};
 ghost use Rattle.live_log.specs.declared.event.ObjectEvent.TheVariants.{Retire};
 ghost use Rattle.live_log.specs.Log.{Begins, Has, IsLiveRun, Log};
 ghost use Rattle.live_log.specs.Tables.{tabled};
+ghost use Rattle.rcu_list.specs.live_rule.Places.{hold_at};
 ghost use Rattle.rcu_list.specs.live_rule.declared.view.Look.{Look};
+ghost use Rattle.rcu_list.specs.live_rule.declared.view.Look.TheVariants.{Stored};
 ghost use Rattle.rcu_list.specs.live_table.Rights.{object_in};
-ghost use Rattle.rcu_list.specs.live_read.Hearing.{IsAfter, MakesMany, OnlyHears, OnlyMakesLast, Stays};
+ghost use Rattle.rcu_list.specs.live_read.Hearing.{IsAfter, MakesMany, OnlyHears, Stays};
 ghost use Rattle.rcu_list.specs.live_write.Chains.{list_in};
 ghost use Rattle.rcu_list.specs.domain.Waiting.{FindsMore};
-ghost use Rattle.rcu_hash.specs.Tidying.{ClearsNote, EndsTidying, HasWaited, IsLeft, IsLinked, IsRecord, IsRefused, IsRest, IsStopped, IsTidied, RetiresObject, StopsTidying, UsesUp, WasCleared, chains_in, objects_in};
-ghost use Rattle.rcu_hash.specs.Writers.{Each, HasNothing};
+ghost use Rattle.rcu_hash.specs.Tidying.{ClearsNote, CountsLeft, EndsTidying, HasWaited, IsLeft, IsLinked, IsRecord, IsRefused, IsQueueAmong, IsRest, IsStopped, IsTidied, RetiresObject, StopsTidying, UsesUp, WasCleared, chains_in, numbers_of, objects_in};
+ghost use Rattle.rcu_hash.specs.Writers.{AreFrom, Each, HasNothing};
 
 use crate::directory::{DirectoryLock, Naming};
 use crate::old_table::OldTable;
@@ -50,7 +52,7 @@ impl<D> TidyEnd<D> {
         }
     }
 
-    /// So many are left, for this reason; or none.
+    /// This many are left, for this reason; or none.
     fn stopped(retired: usize, left: usize, jobs: Vec<D>, why: Refusal) -> TidyEnd<D>
         ensures { (result.retired ≡ retired) × (result.left ≡ left) × (result.jobs ≡ jobs) × IfNone result.stop (left ≡ 0) × IfSome result.stop (λ e. (e ≡ why) × (0 < left)) }
     {
@@ -80,7 +82,7 @@ impl<'d, P: GracePlan + Drop, B: Site, D: Deleter> DirectoryLock<'d, P, B, D> {
         requires chain { IsLeft naming.directory naming.first naming.buckets chain.old.seat.me.0 }
         requires some { 0 < length (list_in chain.old.seat.me.0) }
         ensures retired { IfOk result (λ _. RetiresObject P.QSBR tabled B.sizes naming.directory (W.seen caller.old) (W.heard caller.old) (D.row.coded.code job) (W.heard caller.new) × (length (list_in chain.old.seat.me.0) ≡ length (list_in chain.new.seat.me.0) + 1)) }
-        ensures refused { IfErr result (λ e. (e.1 ≡ job) × IsRefused W.Caller caller.old caller.new e.0 × (list_in chain.new.seat.me.0 ≡ list_in chain.old.seat.me.0)) }
+        ensures refused { IfErr result (λ e. (e.1 ≡ job) × IsRefused W.Caller caller.new (λ q. q ≡ chain.old.number % B.sizes.queues) e.0 × (list_in chain.new.seat.me.0 ≡ list_in chain.old.seat.me.0)) }
         ensures chain { IsLeft naming.directory naming.first naming.buckets chain.new.seat.me.0 }
         ensures number { chain.new.number ≡ chain.old.number }
         ensures heard { Begins (W.heard caller.old) (W.heard caller.new) }
@@ -88,8 +90,7 @@ impl<'d, P: GracePlan + Drop, B: Site, D: Deleter> DirectoryLock<'d, P, B, D> {
         ensures same { FindsMore W.Caller caller.old caller.new }
     {
         let domain = chain.domain();
-        let (mut place, directory) = self.take(rt, naming);
-        let lent = directory.lend(chain);
+        let (mut place, lent) = self.lend(rt, naming, chain);
         let answer = domain.cut_retire(rt, caller, chain, 0, job);
         *place = Some(lent.take_back(chain));
         answer
@@ -110,7 +111,7 @@ impl<'d, P: GracePlan + Drop, B: Site, D: Deleter> DirectoryLock<'d, P, B, D> {
         requires chain { IsLeft naming.directory naming.first naming.buckets chain.old.seat.me.0 }
         ensures uses { UsesUp P.QSBR B.sizes naming.directory W.Caller D.row.coded.code caller.old caller.new jobs.old.items jobs.new.items }
         ensures emptied { IfOk result (λ _. HasNothing chain.new.seat.me.0) }
-        ensures stopped { IfErr result (λ e. (0 < length (list_in chain.new.seat.me.0)) × IsStopped W.Caller caller.old caller.new jobs.new.items e) }
+        ensures stopped { IfErr result (λ e. (0 < length (list_in chain.new.seat.me.0)) × IsStopped W.Caller caller.new (λ q. q ≡ chain.old.number % B.sizes.queues) jobs.new.items e) }
         ensures chain { IsLeft naming.directory naming.first naming.buckets chain.new.seat.me.0 }
         ensures number { chain.new.number ≡ chain.old.number }
         ensures waited { HasWaited naming.directory naming.object (W.heard caller.new) }
@@ -140,15 +141,16 @@ impl<'d, P: GracePlan + Drop, B: Site, D: Deleter> DirectoryLock<'d, P, B, D> {
         requires waited { HasWaited naming.directory naming.object (W.heard caller.old) }
         requires chain { IsLeft naming.directory naming.first naming.buckets chain.seat.me.0 }
         requires nothing { HasNothing chain.seat.me.0 }
-        ensures cleared { ClearsNote P.QSBR tabled B.sizes naming.directory (W.seen caller.old) (W.heard caller.old) (W.heard caller.new) }
+        ensures cleared { (log : Log) × ClearsNote P.QSBR tabled B.sizes naming.directory (W.seen caller.old) (W.heard caller.old) chain.entry.number log × Begins log (W.heard caller.new) }
         ensures own { WasCleared (W.heard caller.old) chain.entry.number (W.heard caller.new) }
-        ensures same { OnlyMakesLast W.Caller caller.old caller.new (W.heard caller.new) }
+        ensures freed { W.looks caller.new ≡ Stored (hold_at B.sizes chain.entry.number) 0 ∷ W.looks caller.old }
+        ensures same { MakesMany W.Caller caller.old caller.new 1 × (W.loads caller.new ≡ W.loads caller.old) }
     {
         let mut chain = chain;
-        let (mut place, directory) = self.take(rt, naming);
-        let lent = directory.lend(&mut chain);
+        let (mut place, lent) = self.lend(rt, naming, &mut chain);
         chain.set_note(caller, 0);
         *place = Some(lent.take_back(&mut chain));
+        chain.release(caller);
     }
 
     /// Retires all objects of these chains and gives them back, from the last one, as long as there are callbacks.
@@ -168,7 +170,8 @@ impl<'d, P: GracePlan + Drop, B: Site, D: Deleter> DirectoryLock<'d, P, B, D> {
         ensures chains { Each (IsLeft naming.directory naming.first naming.buckets) (map (λ c. c.seat.me.0) chains.new.items) }
         ensures emptied { IfOk result (λ _. chains.new.items ≡ []) }
         ensures cleared { (c : ℕ) → In (chains_in (map (λ c. c.seat.me.0) chains.old.items)) c → WasCleared (W.heard caller.old) c (W.heard caller.new) ⊎ In (chains_in (map (λ c. c.seat.me.0) chains.new.items)) c }
-        ensures stopped { IfErr result (λ e. (0 < objects_in (map (λ c. c.seat.me.0) chains.new.items)) × IsStopped W.Caller caller.old caller.new jobs.new.items e) }
+        ensures row { (first : ℕ) → AreFrom first (map (λ c. c.seat.me.0) chains.old.items) → AreFrom first (map (λ c. c.seat.me.0) chains.new.items) }
+        ensures stopped { IfErr result (λ e. (0 < objects_in (map (λ c. c.seat.me.0) chains.new.items)) × IsStopped W.Caller caller.new (λ q. (c : ℕ) × In (chains_in (map (λ c. c.seat.me.0) chains.new.items)) c × (q ≡ c % B.sizes.queues)) jobs.new.items e) }
         ensures same { FindsMore W.Caller caller.old caller.new }
     {
         let many = chains.len();
@@ -200,7 +203,7 @@ fn retire_record<P: GracePlan + Drop, B: Site, D: Deleter, W: Caller<B>, R: Wait
     ensures retired { IfOk result (λ _. replaced.new ≡ None) }
     ensures told { (o : ObjectId) → option_map (λ u. object_in u.seat.me.0.object) replaced.old ≡ Some o → Has (Object (Retire o)) (W.heard caller.new) ⊎ (option_map (λ u. object_in u.seat.me.0.object) replaced.new ≡ Some o) }
     ensures kept { (replaced.new ≡ None) ⊎ (replaced.new ≡ replaced.old) }
-    ensures stopped { IfErr result (λ e. IsSome replaced.new × IsStopped W.Caller caller.old caller.new jobs.new.items e) }
+    ensures stopped { IfErr result (λ e. IsSome replaced.new × ((d : ℕ) → IfSome replaced.old (λ u. IsRecord d u.chain u.seat.me.0) → IsStopped W.Caller caller.new (λ q. q ≡ d % B.sizes.queues) jobs.new.items e)) }
     ensures heard { Begins (W.heard caller.old) (W.heard caller.new) }
     ensures changes { Stays W.Caller caller.old caller.new }
     ensures same { FindsMore W.Caller caller.old caller.new }
@@ -222,23 +225,8 @@ fn retire_record<P: GracePlan + Drop, B: Site, D: Deleter, W: Caller<B>, R: Wait
     }
 }
 
-/// How many objects these chains have, with so many others; at most the greatest number.
-fn count<P: GracePlan, B: Site, D: Deleter>(
-    chains: &[Chain<'_, P, Tabled, B, D>],
-    others: usize,
-) -> usize
-    ensures { result ≡ min (others + objects_in (map (λ c. c.seat.me.0) chains.now)) (2 ^ 64 - 1) }
-{
-    let mut many = others;
-    for index in 0..chains.len() {
-        many = many.saturating_add(chains[index].len());
-    }
-    many
-}
-
 impl<'d, P: GracePlan + Drop, B: Site, D: Deleter> RcuHash<'d, P, B, D> {
-    /// What earlier directories left, out of its lock, to which it is to be given back. A lock tells only the type of
-    /// what it holds, so the directory's chain is compared; it always is the right one.
+    /// What earlier directories left, out of its lock, to which it is to be given back.
     pub(crate) fn take_left<'t, R: Wait>(
         &'t self,
         rt: &R,
@@ -297,7 +285,8 @@ impl<'d, P: GracePlan + Drop, B: Site, D: Deleter> RcuHash<'d, P, B, D> {
         ensures done { IfOk result (λ _. (chains.new.items ≡ []) × (replaced.new ≡ None)) }
         ensures chains { IfErr result (λ _. 0 < vec_len chains.new) × Each (IsLeft naming.directory naming.first naming.buckets) (map (λ c. c.seat.me.0) chains.new.items) }
         ensures uses { UsesUp P.QSBR B.sizes naming.directory W.Caller D.row.coded.code caller.old caller.new jobs.old.items jobs.new.items }
-        ensures stopped { IfErr result (λ e. (IsSome replaced.new ⊎ (0 < objects_in (map (λ c. c.seat.me.0) chains.new.items))) × IsStopped W.Caller caller.old caller.new jobs.new.items e) }
+        ensures row { (first : ℕ) → AreFrom first (map (λ c. c.seat.me.0) chains.old.items) → AreFrom first (map (λ c. c.seat.me.0) chains.new.items) }
+        ensures stopped { IfErr result (λ e. (IsSome replaced.new ⊎ (0 < objects_in (map (λ c. c.seat.me.0) chains.new.items))) × IsStopped W.Caller caller.new (IsQueueAmong B.sizes naming.directory (chains_in (map (λ c. c.seat.me.0) chains.new.items))) jobs.new.items e) }
         ensures same { FindsMore W.Caller caller.old caller.new }
     {
         retire_record(rt, self.domain, caller, replaced, jobs)?;
@@ -319,6 +308,7 @@ impl<'d, P: GracePlan + Drop, B: Site, D: Deleter> RcuHash<'d, P, B, D> {
         requires chains { Each (IsLeft naming.directory naming.first naming.buckets) (map (λ c. c.seat.me.0) chains.items) }
         requires rest { (log : Log) → Begins (W.heard caller.old) log → IsLiveRun P.QSBR tabled log → IsLinked naming.directory naming.object log → IsRest naming.directory naming.object (map (λ c. c.seat.me.0) chains.items) (option_map (λ u. object_in u.seat.me.0.object) unlinked) log }
         ensures rest { IsRest naming.directory naming.object (map (λ c. c.seat.me.0) chains.entry.items) (option_map (λ u. object_in u.seat.me.0.object) unlinked) (W.heard caller.new) }
+        ensures old { (result.naming ≡ naming) × (result.chains ≡ chains.entry) × (result.unlinked ≡ unlinked) }
         ensures heard { IsAfter P.QSBR tabled (W.seen caller.old) (W.heard caller.old) (W.heard caller.new) }
         ensures same { OnlyHears W.Caller caller.old caller.new }
     {
@@ -346,7 +336,8 @@ impl<'d, P: GracePlan + Drop, B: Site, D: Deleter> RcuHash<'d, P, B, D> {
         ensures jobs { IfOk result (λ r. (used : List D) × (jobs.items ≡ r.jobs.items ++ used) × (length used ≡ r.retired)) }
         ensures uses { IfOk result (λ r. UsesUp P.QSBR B.sizes naming.directory W.Caller D.row.coded.code caller.old caller.new jobs.items r.jobs.items) }
         ensures done { IfOk result (λ r. IfNone r.stop ((r.left ≡ 0) × IsTidied naming.directory (W.heard caller.new))) }
-        ensures stopped { IfOk result (λ r. IfSome r.stop (λ e. (0 < r.left) × IsStopped W.Caller caller.old caller.new r.jobs.items e)) }
+        ensures stopped { IfOk result (λ r. IfSome r.stop (λ e. (0 < r.left) × ((chains : List (ℕ × ℕ)) × CountsLeft W.Caller P.QSBR tabled caller.old caller.new naming.directory chains r.left × IsStopped W.Caller caller.new (IsQueueAmong B.sizes naming.directory (numbers_of chains)) r.jobs.items e))) }
+        ensures heard { IfOk result (λ _. IsLiveRun P.QSBR tabled (W.heard caller.new)) }
         ensures back { IfErr result (λ js. (js ≡ jobs) × (caller.new ≡ caller.old)) }
         ensures same { FindsMore W.Caller caller.old caller.new }
     {
@@ -367,18 +358,28 @@ impl<'d, P: GracePlan + Drop, B: Site, D: Deleter> RcuHash<'d, P, B, D> {
         let many = jobs.len();
         let answer = self.retire_left(rt, caller, naming, &mut replaced, &mut chains, &mut jobs);
         let retired = many - jobs.len();
-        let left = count(&chains, replaced.is_some() as usize);
-        *place = Some(self.set_down(rt, caller, naming, replaced, chains));
+        let old = self.set_down(rt, caller, naming, replaced, chains);
         match answer {
-            Ok(()) => Ok(TidyEnd::done(retired, jobs)),
-            Err(refusal) => Ok(TidyEnd::stopped(retired, left, jobs, refusal)),
+            Ok(()) => {
+                *place = Some(old);
+                Ok(TidyEnd::done(retired, jobs))
+            }
+            Err(refusal) => {
+                let (old, left) = old.count(rt, &self.lock, caller);
+                *place = Some(old);
+                Ok(TidyEnd::stopped(retired, left, jobs, refusal))
+            }
         }
     }
 
-    /// How much is left, where something is.
-    fn count_left<R: Wait>(&self, rt: &R) -> usize {
+    /// How much is left. The caller hears of it.
+    fn count_left<W: Caller<B>, R: Wait>(&self, rt: &R, caller: &mut W) -> usize
+        ensures counted { (chains : List (ℕ × ℕ)) × CountsLeft W.Caller P.QSBR tabled caller.old caller.new self.now.directory chains result }
+        ensures heard { IsAfter P.QSBR tabled (W.seen caller.old) (W.heard caller.old) (W.heard caller.new) }
+        ensures same { OnlyHears W.Caller caller.old caller.new }
+    {
         let (mut place, left) = self.take_left(rt);
-        let many = count(&left.chains, left.unlinked.is_some() as usize);
+        let (left, many) = left.count(rt, &self.lock, caller);
         *place = Some(left);
         many
     }
@@ -386,18 +387,19 @@ impl<'d, P: GracePlan + Drop, B: Site, D: Deleter> RcuHash<'d, P, B, D> {
     /// Retires what earlier directories left, one callback each, from the back. Where something is left it waits for a
     /// grace period first, liburcu's `synchronize_rcu`, so a caller has no section or lock open, and is offline where
     /// its reader is of the quiescent-state flavour. What callbacks it does not use come back. Where nothing is left
-    /// each record is retired, and each chain of an earlier directory has lost its note. Where another thread has made
-    /// the table grow meanwhile, it waits for another grace period.
+    /// each record is retired, and each chain of an earlier directory has lost its note. A chain that loses its note is
+    /// given back. Where another thread has made the table grow meanwhile, it waits for another grace period.
     ///
     /// It stops with `FewJobs` where callbacks run out while objects are left, with `Exhausted` where the grace period
-    /// is refused, and with `Closed` or `Memory` as `retire`. While it waits for the grace period it holds no lock:
-    /// writers and readers go on, and a growth is refused with `Busy`.
+    /// is refused, and with `Closed` or `Memory` as `retire`. Then it answers how many objects are left, and the caller
+    /// hears that nothing else is. While it waits for the grace period it holds no lock: writers and readers go on, and a growth is
+    /// refused with `Busy`.
     pub fn tidy<W: Caller<B>, R: Wait>(&self, rt: &R, caller: &mut W, jobs: Vec<D>) -> TidyEnd<D>
         ensures jobs { (used : List D) × (jobs.items ≡ result.jobs.items ++ used) × (length used ≡ result.retired) }
         ensures tidied { EndsTidying W.Caller P.QSBR tabled caller.old caller.new B.sizes self.now.directory D.row.coded.code jobs.items result.jobs.items }
         ensures done { IfNone result.stop ((result.left ≡ 0) × IsTidied self.now.directory (W.heard caller.new)) }
-        ensures stopped { IfSome result.stop (λ e. StopsTidying W.Caller P.QSBR tabled caller.old caller.new result.retired result.left result.jobs.items e) }
-        ensures heard { Begins (W.heard caller.old) (W.heard caller.new) }
+        ensures stopped { IfSome result.stop (λ e. StopsTidying W.Caller P.QSBR tabled caller.old caller.new B.sizes self.now.directory result e) }
+        ensures heard { IsAfter P.QSBR tabled (W.seen caller.old) (W.heard caller.old) (W.heard caller.new) }
         ensures same { (found : List Look) × (W.looks caller.new ≡ found ++ W.looks caller.old) }
     {
         let mut jobs = jobs;
@@ -406,7 +408,7 @@ impl<'d, P: GracePlan + Drop, B: Site, D: Deleter> RcuHash<'d, P, B, D> {
                 return TidyEnd::done(0, jobs);
             };
             if let Err(refusal) = self.domain.synchronize(rt, caller) {
-                let left = self.count_left(rt);
+                let left = self.count_left(rt, caller);
                 if left > 0 {
                     return TidyEnd::stopped(0, left, jobs, refusal);
                 }

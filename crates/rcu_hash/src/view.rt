@@ -72,7 +72,7 @@ impl<B: Site> TableView<B> {
 
     /// Of the table whose directory is in a chain of the domain.
     ///
-    /// Refused with `NoPlace` exactly where there is no such chain. It takes no memory and never waits.
+    /// Refused with `NoPlace` exactly where there is no such chain.
     pub fn of<P: GracePlan + Drop, D: Deleter>(
         domain: &Domain<P, Tabled, B, D>,
         directory: usize,
@@ -93,7 +93,6 @@ impl<B: Site> TableView<B> {
 
     // Three words of an object: a directory's kind, the first chain that it names, and how many.
     fn words<P: GracePlan>(section: &mut Section<'_, P, Tabled, B>, held: Held) -> (u64, u64, u64)
-        requires open_section { 0 < section.old.reader.now.core.depth }
         requires held { MayHoldIn section.old.reader.now.core held.cell }
         ensures reader { section.new.reader.ghost_name ≡ section.old.reader.ghost_name }
         ensures looked { Looks P.QSBR tabled section.old.reader.now.core section.new.reader.now.core }
@@ -112,7 +111,6 @@ impl<B: Site> TableView<B> {
         held: Held,
         key: u64,
     ) -> Option<u64>
-        requires open_section { 0 < section.old.reader.now.core.depth }
         requires inside { IsIn section.old.reader.now.core }
         requires first { (o : ObjectId) × FindsFirst section.old.reader.now.core self.directory (Some o) × MayHold section.old.reader.now.core o held.cell }
         ensures reader { section.new.reader.ghost_name ≡ section.old.reader.ghost_name }
@@ -132,10 +130,8 @@ impl<B: Site> TableView<B> {
     /// `buckets_answer_for_their_table` a lookup that read an earlier directory answers by the map at the moment at
     /// which another took its place, at the latest.
     ///
-    /// It reads the directory and the key's bucket alone, and returns, since ranks fall along the bucket's chain. It
-    /// never waits and takes no memory.
+    /// It reads the directory and the key's bucket alone, and returns, since ranks fall along the bucket's chain.
     pub fn get<P: GracePlan>(self, section: &mut Section<'_, P, Tabled, B>, key: u64) -> Option<u64>
-        requires { 0 < section.old.reader.now.core.depth }
         ensures reader { section.new.reader.ghost_name ≡ section.old.reader.ghost_name }
         ensures looked { Looks P.QSBR tabled section.old.reader.now.core section.new.reader.now.core }
         ensures window { AnswersReader section.old.reader.now.core section.new.reader.now.core B.sizes.chains self.directory key result }
@@ -154,7 +150,6 @@ impl<B: Site> TableView<B> {
         held: Held,
         visit: &mut F,
     )
-        requires open_section { 0 < section.old.reader.now.core.depth }
         requires inside { IsIn section.old.reader.now.core }
         requires first { (o : ObjectId) × FindsFirst section.old.reader.now.core self.directory (Some o) × MayHold section.old.reader.now.core o held.cell }
         requires callable { F.IsAlwaysCallable visit.old }
@@ -177,13 +172,12 @@ impl<B: Site> TableView<B> {
     /// is replaced and while the table grows; one that never is there is not met; and each value is one that its key
     /// had meanwhile.
     ///
-    /// It returns where each call does, since ranks fall along each chain. It never waits and takes no memory.
+    /// It returns where each call does, since ranks fall along each chain.
     pub fn for_each<P: GracePlan, F: FnMut(u64, u64)>(
         self,
         section: &mut Section<'_, P, Tabled, B>,
         visit: &mut F,
     )
-        requires open_section { 0 < section.old.reader.now.core.depth }
         requires callable { F.IsAlwaysCallable visit.old }
         ensures reader { section.new.reader.ghost_name ≡ section.old.reader.ghost_name }
         ensures looked { Looks P.QSBR tabled section.old.reader.now.core section.new.reader.now.core }

@@ -1,16 +1,5 @@
 -- What a writer of a free chain may write, by the list and the notes that it knows.
-use Rattle.std.proofs.Common.{Bool, ◌≡◌, ◌≢◌, ℕ, ◌<◌, List, ◌∷◌, sym, ap, ◌∙◌, subst}
-use Rattle.rcu_model.specs.declared.event.ObjectId.{ObjectId}
-use Rattle.rcu_model.specs.Sets.{In, at_object, replaced, without_object}
-use Rattle.rcu_model.proofs.Lemmas.{at_number_same, at_object_other, at_object_same}
-use Rattle.live_log.specs.declared.event.LiveEvent.{LiveEvent}
-use Rattle.live_log.specs.declared.event.LiveEvent.TheVariants.{Object}
-use Rattle.live_log.specs.declared.event.ObjectEvent.TheVariants.{Push, Replace, Cut}
-use Rattle.live_log.specs.Keys.{Falls, key_of, rank_of}
-use Rattle.live_log.specs.Log.{Log, Begins, IsLiveRun, record_of, state_of}
-use Rattle.live_log.specs.Maps.{HasMaps, IsPlain, TakesKeys}
-use Rattle.live_log.specs.Tables.{HasKey}
-use Rattle.live_log.proofs.Lemmas.{chain_used, falls_cut, falls_push, falls_replaced, falls_same, note_stays, run_of}
+use Rattle.rcu_list.proofs.Cited.{Bool, ◌≡◌, ◌≢◌, ℕ, ◌<◌, List, ◌∷◌, sym, ap, ◌∙◌, subst, ObjectId, In, at_object, replaced, without_object, at_number_same, at_object_other, at_object_same, LiveEvent, Object, Push, Replace, Cut, Falls, key_of, rank_of, Log, Begins, IsLiveRun, record_of, state_of, HasMaps, IsPlain, TakesKeys, HasKey, chain_used, falls_cut, falls_push, falls_replaced, falls_same, note_stays, run_of}
 
 module _ (qsbr : Bool) (allows : Log → LiveEvent → Type 0) (maps : HasMaps qsbr allows) (free : Log → ℕ → Type 0) (takes : TakesKeys qsbr allows free) (c : ℕ) (known log : Log) (begins : Begins known log) (run : IsLiveRun qsbr allows log) (os : List ObjectId) (was : (state_of known).chain c ≡ os) (is : (state_of log).chain c ≡ os) (is_free : free log c) (keys : (o : ObjectId) → In os o → HasKey (record_of known o)) where
   -- the objects of the list have the notes that they had

@@ -1,19 +1,7 @@
 -- How the map of a keyed chain changes at an event of its writer.
-use Rattle.std.proofs.Common.{◌≡◌, ◌≢◌, ◌<◌, ◌^◌, ℕ, Bool, List, [], ◌∷◌, Some, None, refl, sym, ap, ◌∙◌, subst, ⊎_elim}
-use mathlib.Core.Logic.{dite}
-use native.Mathlib.Decide.{ℕ_discrete}
-use Rattle.rcu_model.specs.declared.event.ObjectId.{ObjectId}
-use Rattle.rcu_model.specs.Sets.{In, at_number, replaced, without_object}
-use Rattle.rcu_model.proofs.Lemmas.{at_number_same, at_number_other, at_object_same, has_replaced, has_without_object, in_objects, replaced_has, replaced_there, without_object_has}
-use Rattle.live_log.specs.declared.event.LiveEvent.{LiveEvent}
-use Rattle.live_log.specs.declared.event.LiveEvent.TheVariants.{Object}
-use Rattle.live_log.specs.declared.event.ObjectEvent.TheVariants.{Push, Replace, Cut}
-use Rattle.live_log.specs.Keys.{key_of}
-use Rattle.live_log.specs.Log.{Log, Begins, IsLiveRun, record_of, state_of}
-use Rattle.live_log.proofs.Lemmas.{chain_used, note_stays, run_of}
-use Rattle.live_log.specs.Maps.{HasMaps}
+use Rattle.rcu_list.proofs.Cited.{◌≡◌, ◌≢◌, ◌<◌, ◌≤◌, ◌^◌, ℕ, ◌+◌, Bool, List, [], ◌∷◌, Some, None, refl, sym, ap, ◌∙◌, subst, ⊎_elim, dite, ℕ_discrete, ObjectId, In, at_number, first_of, replaced, without_object, at_number_same, at_number_other, at_object_same, first_has, has_replaced, has_without_object, in_objects, replaced_has, replaced_there, without_object_has, LiveEvent, Object, Push, Replace, Cut, key_of, rank_of, Log, Begins, IsLiveRun, record_of, state_of, chain_used, note_stays, run_of, HasMaps}
 use Rattle.rcu_list.specs.Calls.{Inserts, Replaces, Removes}
-use Rattle.rcu_list.specs.Maps.{map_of, next_rank, value_in, value_of, words_of}
+use Rattle.rcu_list.specs.Maps.{HasLastRank, map_of, next_rank, value_in, value_of, words_of}
 use Rattle.rcu_list.proofs.Values.{one_key, rank_same, value_absent, value_at, value_first, value_kept, value_same}
 
 module _ (qsbr : Bool) (allows : Log → LiveEvent → Type 0) (maps : HasMaps qsbr allows) (c : ℕ) where
@@ -35,9 +23,12 @@ module _ (qsbr : Bool) (allows : Log → LiveEvent → Type 0) (maps : HasMaps q
     pub key_missing : (key : ℕ) → ((o : ObjectId) → In (chain_in known) o → key_of (record_of log o) ≢ key) → map_of known c key ≡ None
     key_missing key none = value_absent (record_of known) (chain_in known) key (λ o h is. none o h (ap key_of (same_note o h) ∙ is))
 
-    -- the same objects have the same map
-    same_map : chain_in log ≡ chain_in known → (k : ℕ) → map_of log c k ≡ map_of known c k
+    -- the same objects have the same map, and the same last rank
+    pub same_map : chain_in log ≡ chain_in known → (k : ℕ) → map_of log c k ≡ map_of known c k
     same_map linked k = ap (λ (os : List ObjectId). value_in (record_of log) os k) linked ∙ value_same (record_of known) (record_of log) (chain_in known) k same_note
+
+    pub same_rank : chain_in log ≡ chain_in known → HasLastRank known c → HasLastRank log c
+    same_rank linked (o, first, last) = (o, ap first_of linked ∙ first, subst (λ (x : ℕ × List ℕ). 2 ^ 62 ≤ rank_of x + 1) (sym (same_note o (first_has (chain_in known) o first))) last)
 
   module _ (known seen heard before : Log) (after : Begins known before × Begins seen before × Begins heard before) (linked : chain_in before ≡ chain_in known) (key value rank cell : ℕ) (o : ObjectId) where
     pub inserts : rank < 2 ^ 62 → rank ≡ next_rank (record_of known) (chain_in known) → IsLiveRun qsbr allows (Object (Push c o cell (words_of key value rank)) ∷ before) → map_of known c key ≡ None → Inserts qsbr allows c known seen heard key value (Object (Push c o cell (words_of key value rank)) ∷ before)

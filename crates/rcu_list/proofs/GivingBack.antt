@@ -1,20 +1,5 @@
 -- A caller takes a record, its retirement is refused, and it frees the record.
-use Rattle.std.proofs.Common.{Bool, ◌≡◌, ℕ, ◌∷◌, List, ap, sym, ◌∙◌, subst}
-use Rattle.rcu_model.specs.declared.refusal.Refusal.{Refusal}
-use Rattle.live_log.specs.declared.event.LiveEvent.{LiveEvent}
-use Rattle.live_log.specs.Log.{Log, Begins}
-use Rattle.live_log.proofs.Lemmas.{begins_trans}
-use Rattle.domain.specs.live_rule.Places.{cell_at, closed_at}
-use Rattle.domain.specs.live_rule.declared.rights.RecordRight.{RecordRight}
-use Rattle.domain.specs.live_rule.declared.view.Look.{Look}
-use Rattle.domain.specs.live_rule.declared.view.Look.TheVariants.{Loaded, Stored}
-use Rattle.domain.specs.live_rule.declared.view.Sizes.{Sizes}
-use Rattle.domain.specs.live_read.Hearing.{IsAfter, Stays}
-use Rattle.domain.specs.live_read.declared.caller.Caller.{Ghosts}
-use Rattle.domain.specs.live_reclaim.Refusing.{RefusesRetirement}
-use Rattle.domain.specs.live_table.Rights.{cell_in, object_in}
-use Rattle.domain.specs.live_write.Calls.{LoadsSeqBefore}
-use Rattle.domain.specs.live_write.Searching.{TakesFor, TakesRecord}
+use Rattle.rcu_list.proofs.Cited.{Bool, ◌≡◌, ℕ, ◌∷◌, List, ap, sym, ◌∙◌, subst, Refusal, LiveEvent, Log, Begins, begins_trans, cell_at, closed_at, RecordRight, Look, Loaded, Stored, Sizes, IsAfter, Stays, Ghosts, RefusesRetirement, cell_in, object_in, LoadsSeqBefore, TakesFor, TakesRecord}
 use Rattle.rcu_list.specs.Refusing.{GivesBack}
 use Rattle.rcu_list.proofs.Writing.{stays_both}
 

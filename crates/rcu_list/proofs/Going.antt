@@ -1,18 +1,6 @@
 -- Where a reader stands in a walk through a whole list.
 use Rattle.gp_memb.specs.declared.plan.GracePlan as plan
-use Rattle.std.proofs.Common.{◌≡◌, ◌<◌, ℕ, Bool, List, [], ◌∷◌, ◌++◌, Some, None, refl, sym, ap, subst, arith}
-use Rattle.rcu_model.specs.declared.event.ObjectId.{ObjectId}
-use Rattle.rcu_model.specs.Sets.{first_of}
-use Rattle.rcu_model.proofs.Lemmas.{first_has}
-use Rattle.live_log.specs.declared.event.LiveEvent.{LiveEvent}
-use Rattle.live_log.specs.Keys.{key_of, rank_of}
-use Rattle.live_log.specs.Log.{Log, Begins, IsLiveRun, record_of, state_of}
-use Rattle.live_log.specs.Maps.{HasMaps}
-use Rattle.live_log.proofs.Lemmas.{begins_trans, run_of}
-use Rattle.domain.specs.live_read.declared.reader_core.ReaderCore.{ReaderCore}
-use Rattle.domain.specs.live_read.Holding.{MayHold, log_of}
-use Rattle.domain.specs.live_read.Reads.{FindsFirst, FindsNext, Looks}
-use Rattle.domain.proofs.live_read.Lemmas.{looks_twice}
+use Rattle.rcu_list.proofs.Cited.{◌≡◌, ◌<◌, ℕ, Bool, List, [], ◌∷◌, ◌++◌, Some, None, refl, sym, ap, subst, arith, ObjectId, first_of, first_has, LiveEvent, key_of, rank_of, Log, Begins, IsLiveRun, record_of, state_of, HasMaps, begins_trans, run_of, ReaderCore, MayHold, log_of, FindsFirst, FindsNext, Looks, looks_twice}
 use Rattle.rcu_list.specs.Maps.{value_of}
 use Rattle.rcu_list.specs.Walks.{GoesThrough}
 use Rattle.rcu_list.proofs.Values.{empty_map}

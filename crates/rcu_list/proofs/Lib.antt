@@ -1,9 +1,11 @@
+mod Cited
 pub mod Allowing
 pub mod Changing
 pub mod GivingBack
 pub mod Going
 pub mod Lemmas
 pub mod Looking
+pub mod Refused
 pub mod Values
 pub mod Walking
 pub mod Windows

@@ -1,17 +1,6 @@
 -- Where a reader stands in a lookup along a keyed chain.
 use Rattle.gp_memb.specs.declared.plan.GracePlan as plan
-use Rattle.std.proofs.Common.{◌≡◌, ◌≢◌, ℕ, ◌<◌, Bool, List, [], Option, Some, None, refl, sym, ap, subst, arith}
-use Rattle.rcu_model.specs.declared.event.ObjectId.{ObjectId}
-use Rattle.rcu_model.proofs.Lemmas.{first_has}
-use Rattle.live_log.specs.Keys.{key_of, rank_of}
-use Rattle.live_log.specs.Log.{Log, Begins, record_of, objects_of}
-use Rattle.live_log.proofs.Lemmas.{begins_trans, run_of}
-use Rattle.domain.specs.live_read.declared.reader_core.ReaderCore.{ReaderCore}
-use Rattle.domain.specs.live_read.Holding.{MayHold, log_of}
-use Rattle.domain.specs.live_read.Reads.{FindsFirst, FindsNext, Looks}
-use Rattle.domain.proofs.live_read.Lemmas.{looks_twice}
-use Rattle.live_log.specs.declared.event.LiveEvent.{LiveEvent}
-use Rattle.live_log.specs.Maps.{HasMaps}
+use Rattle.rcu_list.proofs.Cited.{◌≡◌, ◌≢◌, ℕ, ◌<◌, Bool, List, [], Option, Some, None, refl, sym, ap, subst, arith, ObjectId, first_has, key_of, rank_of, Log, Begins, record_of, objects_of, begins_trans, run_of, ReaderCore, MayHold, log_of, FindsFirst, FindsNext, Looks, looks_twice, LiveEvent, HasMaps}
 use Rattle.rcu_list.specs.Maps.{AnswersBetween, value_of}
 use Rattle.rcu_list.proofs.Windows.{Met, Past, Reaches, ends, meets, met_later, misses, past_first, past_later, reaches}
 

@@ -1,11 +1,5 @@
 -- The values of keys among objects.
-use Rattle.std.proofs.Common.{◌≡◌, ◌≢◌, ◌⊎◌, ℕ, ◌+◌, ◌<◌, ◌≤◌, ◌==◌, Bool, if◌then◌else◌, List, [], ◌∷◌, length, Some, None, refl, sym, ap, ◌∙◌, subst, inl, inr, ⊎_elim, arith, eq-eqb, ne_eqb, slice_get}
-use mathlib.Core.Logic.{dite}
-use native.Mathlib.Decide.{ℕ_discrete}
-use Rattle.rcu_model.specs.declared.event.ObjectId.{ObjectId}
-use Rattle.rcu_model.specs.Sets.{In, first_of, next_of, same_object, at_number}
-use Rattle.rcu_model.proofs.Lemmas.{Tells, object_tells, none_some, some_is}
-use Rattle.live_log.specs.Keys.{key_of, rank_of, Falls}
+use Rattle.rcu_list.proofs.Cited.{◌≡◌, ◌≢◌, ◌⊎◌, ℕ, ◌+◌, ◌<◌, ◌≤◌, ◌==◌, Bool, if◌then◌else◌, List, [], ◌∷◌, length, Some, None, refl, sym, ap, ◌∙◌, subst, inl, inr, ⊎_elim, arith, eq-eqb, ne_eqb, slice_get, dite, ℕ_discrete, ObjectId, In, first_of, next_of, same_object, at_number, Tells, object_tells, none_some, some_is, key_of, rank_of, Falls}
 use Rattle.rcu_list.specs.Maps.{next_rank, value_of, value_in}
 
 -- a test of two numbers, either way round

@@ -1,14 +1,5 @@
 -- A walk through a whole list meets each key that is there all along exactly once.
-use Rattle.std.proofs.Common.{◌≡◌, ◌≢◌, ◌⊎◌, ◌≤◌, ◌<◌, ℕ, ◌+◌, ◌==◌, if◌then◌else◌, Bool, true, false, List, [], ◌∷◌, ◌++◌, Some, None, refl, sym, ap, ◌∙◌, subst, inl, inr, ⊎_elim, arith, eq-eqb, ne_eqb}
-use mathlib.Core.Logic.{dite}
-use native.Mathlib.Decide.{ℕ_discrete}
-use Rattle.rcu_model.specs.declared.event.ObjectId.{ObjectId}
-use Rattle.rcu_model.specs.Sets.{In, first_of}
-use Rattle.rcu_model.proofs.Lemmas.{first_has, in_append}
-use Rattle.live_log.specs.declared.event.LiveEvent.{LiveEvent}
-use Rattle.live_log.specs.Keys.{key_of, rank_of}
-use Rattle.live_log.specs.Log.{Log, Begins, Follows, IsLiveRun, record_of, objects_of, state_of}
-use Rattle.live_log.specs.Maps.{HasMaps}
+use Rattle.rcu_list.proofs.Cited.{◌≡◌, ◌≢◌, ◌⊎◌, ◌≤◌, ◌<◌, ℕ, ◌+◌, ◌==◌, if◌then◌else◌, Bool, true, false, List, [], ◌∷◌, ◌++◌, Some, None, refl, sym, ap, ◌∙◌, subst, inl, inr, ⊎_elim, arith, eq-eqb, ne_eqb, dite, ℕ_discrete, ObjectId, In, first_of, first_has, in_append, LiveEvent, key_of, rank_of, Log, Begins, Follows, IsLiveRun, record_of, objects_of, state_of, HasMaps}
 use Rattle.rcu_list.specs.Maps.{AnswersBetween, value_of}
 use Rattle.rcu_list.specs.Walks.{GoesThrough, times}
 use Rattle.rcu_list.proofs.Looking.{answers_later}

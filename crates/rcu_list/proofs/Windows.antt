@@ -1,17 +1,5 @@
 -- A lookup along a keyed chain answers by some moment of its window.
-use Rattle.std.proofs.Common.{◌≡◌, ◌≢◌, ◌⊎◌, ℕ, ◌<◌, Bool, List, [], ◌∷◌, ◌++◌, Option, Some, None, refl, sym, ap, ◌∙◌, subst, inl, inr, ⊎_elim, arith}
-use mathlib.Core.Logic.{dite}
-use native.Mathlib.Decide.{ℕ_discrete}
-use Rattle.rcu_model.specs.declared.event.ObjectId.{ObjectId}
-use Rattle.rcu_model.specs.Sets.{In, first_of, next_of, replaced, without_object}
-use Rattle.rcu_model.proofs.Lemmas.{StaysOrLeaves, StaysCut, at_number_same, at_object_same, in_objects, replaced_has, replaced_there, stays_cut, stays_or_leaves, without_object_has}
-use Rattle.live_log.specs.declared.event.LiveEvent.{LiveEvent}
-use Rattle.live_log.specs.declared.event.LiveEvent.TheVariants.{Open, Close, SeqOdd, SeqEven, Present, ChainNote, CloseQueue, Object}
-use Rattle.live_log.specs.declared.event.ObjectEvent.TheVariants.{Push, Replace, Cut, Retire, Queue, Run}
-use Rattle.live_log.specs.Keys.{key_of, rank_of}
-use Rattle.live_log.specs.Log.{Log, Begins, Follows, IsLiveRun, event_of, record_of, objects_of, state_of}
-use Rattle.live_log.proofs.Lemmas.{begins_trans, chain_used, kept_log, note_stays, run_of}
-use Rattle.live_log.specs.Maps.{HasMaps}
+use Rattle.rcu_list.proofs.Cited.{◌≡◌, ◌≢◌, ◌⊎◌, ℕ, ◌<◌, Bool, List, [], ◌∷◌, ◌++◌, Option, Some, None, refl, sym, ap, ◌∙◌, subst, inl, inr, ⊎_elim, arith, dite, ℕ_discrete, ObjectId, In, first_of, next_of, replaced, without_object, StaysOrLeaves, StaysCut, at_number_same, at_object_same, in_objects, replaced_has, replaced_there, stays_cut, stays_or_leaves, without_object_has, LiveEvent, Open, Close, SeqOdd, SeqEven, Present, ChainNote, CloseQueue, Object, Push, Replace, Cut, Retire, Queue, Run, key_of, rank_of, Log, Begins, Follows, IsLiveRun, event_of, record_of, objects_of, state_of, begins_trans, chain_used, kept_log, note_stays, run_of, HasMaps}
 use Rattle.rcu_list.specs.Maps.{AnswersBetween, map_of, value_of}
 use Rattle.rcu_list.proofs.Values.{Found, find_key, first_above, last_below, next_below, one_key, value_absent, value_at}
 

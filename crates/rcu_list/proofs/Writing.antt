@@ -1,28 +1,5 @@
 -- What the writer of a list knows, and what its events tell of the map.
-use Rattle.std.proofs.Common.{◌≡◌, ◌≢◌, ◌⊎◌, ◌≤◌, ◌<◌, ℕ, ◌+◌, ◌^◌, Bool, List, [], ◌∷◌, Option, Some, None, IsSome, slice_get, slice_index_or, refl, sym, ap, ◌∙◌, subst, inl, inr, ⊎_elim}
-use Rattle.std.specs.Prelude.{Result, Ok, Err, IfOk, IfErr, IfSome, IfNone}
-use Rattle.atomic_table.specs.Table.{Me}
-use Rattle.rcu_model.specs.declared.event.ObjectId.{ObjectId}
-use Rattle.rcu_model.specs.Sets.{In, first_of, replaced, without_object}
-use Rattle.rcu_model.proofs.Lemmas.{at_object_same, first_has, replaced_has, some_is, without_object_has}
-use Rattle.live_log.specs.declared.event.LiveEvent.{LiveEvent}
-use Rattle.live_log.specs.declared.event.LiveEvent.TheVariants.{Object}
-use Rattle.live_log.specs.declared.event.ObjectEvent.TheVariants.{Push, Replace, Cut}
-use Rattle.live_log.specs.Keys.{key_of, rank_of}
-use Rattle.live_log.specs.Log.{Log, Begins, IsLiveRun, chain_note, record_of, state_of}
-use Rattle.domain.specs.live_rule.declared.view.View.{View}
-use Rattle.domain.specs.live_rule.Seats.{lent_chains}
-use Rattle.domain.specs.live_rule.declared.rights.ChainRight.{ChainRight}
-use Rattle.domain.specs.live_table.Rights.{AreAsKnown, IsListed, IsWriter, cell_in, object_in, own_in, payload_in}
-use Rattle.domain.specs.live_table.Steps.{Went}
-use Rattle.domain.specs.live_chains.Chains.{cut_of}
-use Rattle.domain.specs.live_read.Hearing.{Stays}
-use Rattle.domain.specs.live_read.declared.caller.Caller.{Ghosts}
-use Rattle.domain.specs.live_write.Chains.{GoesOn, IsFirstWith, MayPublish, Publishes, list_in, push_by, replace_by}
-use Rattle.domain.proofs.live_write.Lemmas.{index_has}
-use Rattle.live_log.specs.Maps.{HasMaps, IsUnnoted, TakesKeys}
-use Rattle.live_log.specs.Tables.{HasKey}
-use Rattle.live_log.proofs.Lemmas.{begins_trans, not_has}
+use Rattle.rcu_list.proofs.Cited.{◌≡◌, ◌≢◌, ◌⊎◌, ◌≤◌, ◌<◌, ℕ, ◌+◌, ◌^◌, Bool, List, [], ◌∷◌, Option, Some, None, IsSome, slice_get, slice_index_or, refl, sym, ap, ◌∙◌, subst, inl, inr, ⊎_elim, Result, Ok, Err, IfOk, IfErr, IfSome, IfNone, Me, ObjectId, In, first_of, replaced, without_object, at_object_same, first_has, replaced_has, some_is, without_object_has, LiveEvent, Object, Push, Replace, Cut, key_of, rank_of, Log, Begins, IsLiveRun, chain_note, record_of, state_of, View, lent_chains, ChainRight, AreAsKnown, IsListed, IsWriter, cell_in, object_in, own_in, payload_in, Went, cut_of, Stays, Ghosts, GoesOn, IsFirstWith, MayPublish, Publishes, list_in, push_by, replace_by, index_has, HasMaps, IsUnnoted, TakesKeys, HasKey, begins_trans, not_has}
 use Rattle.rcu_list.proofs.Allowing.{may_cut, may_push, may_replace}
 use Rattle.rcu_list.specs.Calls.{Inserts, Replaces, Removes}
 use Rattle.rcu_list.specs.Maps.{HasLastRank, map_of, next_rank, value_in, value_of, words_of}

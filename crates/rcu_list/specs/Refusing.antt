@@ -1,6 +1,5 @@
 -- What is known where a call of a list's writer is refused.
 use Rattle.std.specs.Prelude.{◌≡◌, ◌≢◌, ◌⊎◌, ◌%◌, ◌∷◌, ◌++◌, Bool, ℕ, List, None, IsSome}
-use Rattle.atomic_table.specs.declared.shared.Seat.{Seat}
 use Rattle.rcu_model.specs.declared.refusal.Refusal.{Refusal}
 use Rattle.rcu_model.specs.declared.refusal.Refusal.TheVariants.{Closed, Exists, Memory, Missing, PoolFull}
 use Rattle.live_log.specs.declared.event.LiveEvent.{LiveEvent}
@@ -9,10 +8,8 @@ use Rattle.domain.specs.live_rule.Places.{cell_at, closed_at}
 use Rattle.domain.specs.live_rule.declared.view.Look.{Look}
 use Rattle.domain.specs.live_rule.declared.view.Look.TheVariants.{Loaded, Stored}
 use Rattle.domain.specs.live_rule.declared.view.Sizes.{Sizes}
-use Rattle.domain.specs.live_rule.declared.view.View.{View}
-use Rattle.domain.specs.live_read.Hearing.{IsAfter, Stays}
+use Rattle.domain.specs.live_read.Hearing.{IsAfter, OnlyHears, Stays}
 use Rattle.domain.specs.live_read.declared.caller.Caller.{Ghosts}
-use Rattle.domain.specs.live_reclaim.Refusing.{RefusesRetirement}
 use Rattle.domain.specs.live_write.Searching.{GetsNoRecord, TakesRecord}
 use Rattle.rcu_list.specs.Maps.{HasLastRank, map_of}
 
@@ -51,18 +48,36 @@ module _ {W S : Type 0} (w : Ghosts W S) (qsbr : Bool) (allows : Log → LiveEve
     abbrev pub RefusesSuccessor : Type 0
     RefusesSuccessor = ((e ≡ Missing) × (map_of known c key ≡ None) × (new ≡ old)) ⊎ (IsSome (map_of known c key) × FindsNoRecord)
 
-    -- the key is not there; else there is no record, or its queue takes nothing
-    abbrev pub RefusesReplacement : ℕ → Type 0
-    RefusesReplacement queue = ((e ≡ Missing) × (map_of known c key ≡ None) × (new ≡ old)) ⊎ (IsSome (map_of known c key) × (FindsNoRecord ⊎ GivesBack queue))
+  -- The queue's closed word was loaded in a log of the call, and the refusal goes by it.
+  pub record IsRefusedBy (queue : ℕ) : Type 0 where
+    pub closed : ℕ
+    pub looks : w.looks new ≡ Loaded (closed_at sizes queue) closed ∷ w.looks old
+    pub at : Log
+    pub told : closed ≡ closed_of queue at
+    pub within : IsAfter qsbr allows (w.seen old) (w.heard old) at × Begins at (w.heard new) × IsLiveRun qsbr allows (w.heard new)
+    pub why : ((e ≡ Closed) × (closed ≡ 1)) ⊎ ((e ≡ Memory) × (closed ≢ 1))
+    pub same : Stays w old new × (w.loads new ≡ w.loads old)
 
-    -- the key is not there; else its queue takes nothing
-    abbrev pub RefusesRemoval : ℕ → Type 0
-    RefusesRemoval queue = ((e ≡ Missing) × (map_of known c key ≡ None) × (new ≡ old)) ⊎ (IsSome (map_of known c key) × RefusesRetirement w qsbr allows sizes queue old new e)
+  -- nothing was done for the caller, which has heard of a log of the call
+  abbrev pub HearsOfCall : Type 0
+  HearsOfCall = IsAfter qsbr allows (w.seen old) (w.heard old) (w.heard new) × OnlyHears w old new
 
--- by what the seat of the list's writer knew, of the chain's queue
-module _ {T W S : Type 0} (w : Ghosts W S) (qsbr : Bool) (allows : Log → LiveEvent → Type 0) (sizes : Sizes) (old new : W) (e : Refusal) (c : ℕ) (before : Seat T View) (key : ℕ) where
-  abbrev pub IsNotReplaced : Type 0
-  IsNotReplaced = RefusesReplacement w qsbr allows sizes old new e before.me.0.seen c key (c % sizes.queues)
+  -- of a list in chain c: in the log of which the caller hears the key has a value, or it has none
+  module _ (c key : ℕ) where
+    abbrev pub IsPresent : Type 0
+    IsPresent = IsSome (map_of (w.heard new) c key)
 
-  abbrev pub IsNotRemoved : Type 0
-  IsNotRemoved = RefusesRemoval w qsbr allows sizes old new e before.me.0.seen c key (c % sizes.queues)
+    abbrev pub IsAbsent : Type 0
+    IsAbsent = map_of (w.heard new) c key ≡ None
+
+    -- the key has a value; else there is no rank for it, or no record
+    abbrev pub IsNotInserted : Type 0
+    IsNotInserted = ((e ≡ Exists) × IsPresent × HearsOfCall) ⊎ (IsAbsent × (((e ≡ PoolFull) × HasLastRank (w.heard new) c × HearsOfCall) ⊎ FindsNoRecord))
+
+    -- the key has none; else there is no record, or its queue takes nothing
+    abbrev pub IsNotReplaced : Type 0
+    IsNotReplaced = ((e ≡ Missing) × IsAbsent × HearsOfCall) ⊎ (IsPresent × (FindsNoRecord ⊎ GivesBack (c % sizes.queues)))
+
+    -- the key has none; else its queue takes nothing
+    abbrev pub IsNotRemoved : Type 0
+    IsNotRemoved = ((e ≡ Missing) × IsAbsent × HearsOfCall) ⊎ (IsPresent × IsRefusedBy (c % sizes.queues))

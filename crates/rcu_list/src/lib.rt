@@ -9,8 +9,8 @@ mod view;
 
 pub use domain::{
     AnyChain, BarrierMark, Callback, Caller, Chain, ChainRule, Counts, Deleter, Domain, Finished,
-    Handle, Held, Keyed, Lent, LiveConfig, LiveCookie, Opened, Owned, Reader, Ripe, Section, Site,
-    Stop, Tabled, Ticket, Unlinked, WorkerEnd,
+    Handle, Held, Item, Job, Keyed, Lent, LiveConfig, LiveCookie, Opened, Owned, Reader, Ripe,
+    Section, Site, Stop, Tabled, Ticket, Unlinked, WorkerEnd,
 };
 pub use list::RcuList;
 pub use preparing::{prepare_insertion, prepare_replacement};

@@ -8,11 +8,11 @@ ghost use Rattle.live_log.specs.Log.{record_of};
 ghost use Rattle.live_log.specs.Tables.{HasKey};
 ghost use Rattle.domain.specs.live_table.Rights.{own_in};
 ghost use Rattle.domain.specs.live_read.Hearing.{OnlyHears, OnlyMakesLast};
-ghost use Rattle.domain.specs.live_write.Calls.{OnlyLooks};
+ghost use Rattle.domain.specs.live_write.Calls.{OnlyLearns, OnlyLooks};
 ghost use Rattle.domain.specs.live_write.Chains.{list_in};
 ghost use Rattle.rcu_list.specs.Calls.{BecomesList, ComesBack, GoesOnFrom, IsInserted, IsRemoved, IsReplaced, KeepsMap, MakesLastAndTakes};
 ghost use Rattle.rcu_list.specs.Maps.{map_of};
-ghost use Rattle.rcu_list.specs.Refusing.{RefusesInsertion, IsNotRemoved, IsNotReplaced};
+ghost use Rattle.rcu_list.specs.Refusing.{IsNotInserted, IsNotRemoved, IsNotReplaced};
 
 use crate::preparing::{prepare_insertion, prepare_replacement};
 use crate::rule::MapRule;
@@ -37,8 +37,7 @@ pub struct RcuList<'d, P: GracePlan, K: MapRule, B: Site, D: Drop = Callback> {
 impl<'d, P: GracePlan + Drop, K: MapRule, B: Site, D: Deleter> RcuList<'d, P, K, B, D> {
     /// A list with no keys, over a chain.
     ///
-    /// Refused with `BadConfig` exactly where the chain is not empty or has a note other than 0; then it comes back. It
-    /// takes no memory and never waits.
+    /// Refused with `BadConfig` exactly where the chain is not empty or has a note other than 0; then it comes back.
     pub fn new(
         mut chain: Chain<'d, P, K, B, D>,
     ) -> Result<RcuList<'d, P, K, B, D>, (Refusal, Chain<'d, P, K, B, D>)>
@@ -53,7 +52,7 @@ impl<'d, P: GracePlan + Drop, K: MapRule, B: Site, D: Deleter> RcuList<'d, P, K,
         Ok(RcuList { chain })
     }
 
-    /// What readers look the list's keys up by. It never waits.
+    /// What readers look the list's keys up by.
     pub fn view(&self) -> ListView<B>
         ensures { result.chain ≡ self.now.chain.number }
     {
@@ -61,10 +60,10 @@ impl<'d, P: GracePlan + Drop, K: MapRule, B: Site, D: Deleter> RcuList<'d, P, K,
     }
 
     /// The writer sees all that the caller has seen and heard of, and the caller hears of what the writer has seen
-    /// then. So what the writer knows of the map is known of a log that comes after all that its caller knew. It takes
-    /// no memory and never waits.
+    /// then. So what the writer knows of the map is known of a log that comes after all that its caller knew.
     pub fn hear<W: Caller<B>>(&mut self, caller: &mut W)
-        ensures chain { (self.new.chain.number ≡ self.old.chain.number) × (list_in self.new.chain.seat.me.0 ≡ list_in self.old.chain.seat.me.0) }
+        ensures learned { OnlyLearns P.QSBR K.allows self.old.chain.seat self.new.chain.seat self.old.chain.number self.new.chain.number }
+        ensures map { KeepsMap self.old.chain.seat self.new.chain.seat self.old.chain.number }
         ensures told { GoesOnFrom W.Caller caller.old caller.new P.QSBR K.allows self.old.chain.seat.me.0.seen self.new.chain.seat.me.0.seen }
         ensures heard { W.heard caller.new ≡ self.new.chain.seat.me.0.seen }
         ensures same { OnlyHears W.Caller caller.old caller.new }
@@ -72,7 +71,7 @@ impl<'d, P: GracePlan + Drop, K: MapRule, B: Site, D: Deleter> RcuList<'d, P, K,
         self.chain.hear(caller);
     }
 
-    /// The value of a key, or none, by the map that the writer knows. It walks from the head, and never waits.
+    /// The value of a key, or none, by the map that the writer knows. It walks from the head.
     pub fn value(&mut self, key: u64) -> Option<u64>
         ensures map { result ≡ map_of self.old.chain.seat.me.0.seen self.old.chain.number key }
         ensures looked { OnlyLooks P.QSBR K.allows self.old.chain.seat self.new.chain.seat self.old.chain.number self.new.chain.number }
@@ -89,10 +88,9 @@ impl<'d, P: GracePlan + Drop, K: MapRule, B: Site, D: Deleter> RcuList<'d, P, K,
     /// Gives a key a value that had none: one push at the front, liburcu's `cds_list_add_rcu`. It comes after all that
     /// the caller had seen and heard of, and the caller hears of it.
     ///
-    /// Refused with `Exists` exactly where the key has a value by the map that the writer knows (which `hear` makes one
-    /// that comes after all that its caller knew), else with `PoolFull` where the ranks are used up, or as `alloc`;
-    /// then the map is as it was. It takes no memory, and waits for nobody, but tries again where other threads draw
-    /// object numbers meanwhile.
+    /// Refused with `Exists` exactly where the key has a value, else with `PoolFull` where the ranks are used up, or as
+    /// `alloc`. Then the map is as it was, and the caller hears of it as `hear` tells. It waits for nobody, but tries
+    /// again where other threads draw object numbers meanwhile.
     pub fn insert<W: Caller<B>, R: Wait>(
         &mut self,
         rt: &R,
@@ -102,22 +100,30 @@ impl<'d, P: GracePlan + Drop, K: MapRule, B: Site, D: Deleter> RcuList<'d, P, K,
     ) -> Result<(), Refusal>
         ensures inserted { IfOk result (λ _. IsInserted W.Caller P.QSBR K.allows B.sizes caller.old caller.new self.old.chain self.new.chain key value) }
         ensures same { IfOk result (λ _. (self.new.chain.number ≡ self.old.chain.number) × MakesLastAndTakes W.Caller caller.old caller.new B.sizes self.new.chain.seat.me.0.seen) }
-        ensures refused { IfErr result (λ e. RefusesInsertion W.Caller P.QSBR K.allows B.sizes caller.old caller.new e self.old.chain.seat.me.0.seen self.old.chain.number key) }
-        ensures kept { IfErr result (λ _. OnlyLooks P.QSBR K.allows self.old.chain.seat self.new.chain.seat self.old.chain.number self.new.chain.number) }
+        ensures refused { IfErr result (λ e. IsNotInserted W.Caller P.QSBR K.allows B.sizes caller.old caller.new e self.old.chain.number key) }
+        ensures kept { IfErr result (λ _. OnlyLearns P.QSBR K.allows self.old.chain.seat self.new.chain.seat self.old.chain.number self.new.chain.number) }
+        ensures heard { IfErr result (λ _. W.heard caller.new ≡ self.new.chain.seat.me.0.seen) }
         ensures map { IfErr result (λ _. KeepsMap self.old.chain.seat self.new.chain.seat self.old.chain.number) }
     {
-        let owned = prepare_insertion(rt, &mut self.chain, caller, key, value)?;
-        self.chain.push(caller, owned);
-        Ok(())
+        match prepare_insertion(rt, &mut self.chain, caller, key, value) {
+            Ok(owned) => {
+                self.chain.push(caller, owned);
+                Ok(())
+            }
+            Err(refusal) => {
+                self.hear(caller);
+                Err(refusal)
+            }
+        }
     }
 
     /// Gives a key that has a value this one: one replacement in its place, liburcu's `cds_list_replace_rcu`, so that
     /// no reader misses the key. The old record is retired with the callback, `call_rcu`. Both come after all that the
     /// caller had seen and heard of, and the caller hears of them.
     ///
-    /// Refused with `Missing` exactly where the key has no value, else as `alloc`, else as `retire`; then the map is as
-    /// it was, the callback comes back, and the new record is back in the pool. It waits for the queue's lock alone,
-    /// and tries again where other threads draw object numbers meanwhile.
+    /// Refused with `Missing` exactly where the key has no value, else as `alloc`, else as `retire`. Then the map is as
+    /// it was, the callback comes back, and the new record is back in the pool. The caller hears of the map as `hear`
+    /// tells. It waits for the queue's lock alone, and tries again where other threads draw object numbers meanwhile.
     pub fn replace<W: Caller<B>, R: Wait>(
         &mut self,
         rt: &R,
@@ -128,19 +134,24 @@ impl<'d, P: GracePlan + Drop, K: MapRule, B: Site, D: Deleter> RcuList<'d, P, K,
     ) -> Result<Ticket, (Refusal, D)>
         ensures replaced { IfOk result (λ t. IsReplaced W.Caller P.QSBR K.allows B.sizes caller.old caller.new self.old.chain self.new.chain key value t (D.row.coded.code callback)) }
         ensures same { IfOk result (λ _. (self.new.chain.number ≡ self.old.chain.number) × MakesLastAndTakes W.Caller caller.old caller.new B.sizes self.new.chain.seat.me.0.seen) }
-        ensures refused { IfErr result (λ e. (e.1 ≡ callback) × IsNotReplaced W.Caller P.QSBR K.allows B.sizes caller.old caller.new e.0 self.old.chain.number self.old.chain.seat key) }
-        ensures kept { IfErr result (λ _. OnlyLooks P.QSBR K.allows self.old.chain.seat self.new.chain.seat self.old.chain.number self.new.chain.number) }
+        ensures refused { IfErr result (λ e. (e.1 ≡ callback) × IsNotReplaced W.Caller P.QSBR K.allows B.sizes caller.old caller.new e.0 self.old.chain.number key) }
+        ensures kept { IfErr result (λ _. OnlyLearns P.QSBR K.allows self.old.chain.seat self.new.chain.seat self.old.chain.number self.new.chain.number) }
+        ensures heard { IfErr result (λ _. W.heard caller.new ≡ self.new.chain.seat.me.0.seen) }
         ensures map { IfErr result (λ _. KeepsMap self.old.chain.seat self.new.chain.seat self.old.chain.number) }
     {
         let (index, owned) = match prepare_replacement(rt, &mut self.chain, caller, key, value) {
             Ok(ready) => ready,
-            Err(refusal) => return Err((refusal, callback)),
+            Err(refusal) => {
+                self.hear(caller);
+                return Err((refusal, callback));
+            }
         };
         let domain = self.chain.domain();
         match domain.replace_retire(rt, caller, &mut self.chain, index, owned, callback) {
             Ok(ticket) => Ok(ticket),
             Err((refusal, owned, callback)) => {
                 domain.discard(caller, owned);
+                self.hear(caller);
                 Err((refusal, callback))
             }
         }
@@ -150,8 +161,8 @@ impl<'d, P: GracePlan + Drop, K: MapRule, B: Site, D: Deleter> RcuList<'d, P, K,
     /// the callback, `call_rcu`. Both come after all that the caller had seen and heard of, and the caller hears of
     /// them.
     ///
-    /// Refused with `Missing` exactly where the key has no value, else as `retire`; then the map is as it was, and the
-    /// callback comes back. It waits for the queue's lock alone.
+    /// Refused with `Missing` exactly where the key has no value, else as `retire`. Then the map is as it was, the
+    /// callback comes back, and the caller hears of the map as `hear` tells. It waits for the queue's lock alone.
     pub fn remove<W: Caller<B>, R: Wait>(
         &mut self,
         rt: &R,
@@ -161,14 +172,22 @@ impl<'d, P: GracePlan + Drop, K: MapRule, B: Site, D: Deleter> RcuList<'d, P, K,
     ) -> Result<Ticket, (Refusal, D)>
         ensures removed { IfOk result (λ t. IsRemoved W.Caller P.QSBR K.allows B.sizes caller.old caller.new self.old.chain self.new.chain key t (D.row.coded.code callback)) }
         ensures same { IfOk result (λ _. (self.new.chain.number ≡ self.old.chain.number) × OnlyMakesLast W.Caller caller.old caller.new self.new.chain.seat.me.0.seen) }
-        ensures refused { IfErr result (λ e. (e.1 ≡ callback) × IsNotRemoved W.Caller P.QSBR K.allows B.sizes caller.old caller.new e.0 self.old.chain.number self.old.chain.seat key) }
-        ensures kept { IfErr result (λ _. OnlyLooks P.QSBR K.allows self.old.chain.seat self.new.chain.seat self.old.chain.number self.new.chain.number) }
+        ensures refused { IfErr result (λ e. (e.1 ≡ callback) × IsNotRemoved W.Caller P.QSBR K.allows B.sizes caller.old caller.new e.0 self.old.chain.number key) }
+        ensures kept { IfErr result (λ _. OnlyLearns P.QSBR K.allows self.old.chain.seat self.new.chain.seat self.old.chain.number self.new.chain.number) }
+        ensures heard { IfErr result (λ _. W.heard caller.new ≡ self.new.chain.seat.me.0.seen) }
         ensures map { IfErr result (λ _. KeepsMap self.old.chain.seat self.new.chain.seat self.old.chain.number) }
     {
         let Some(index) = self.chain.index_of(key) else {
+            self.hear(caller);
             return Err((Refusal::Missing, callback));
         };
         let domain = self.chain.domain();
-        domain.cut_retire(rt, caller, &mut self.chain, index, callback)
+        match domain.cut_retire(rt, caller, &mut self.chain, index, callback) {
+            Ok(retired) => Ok(retired),
+            Err(refused) => {
+                self.hear(caller);
+                Err(refused)
+            }
+        }
     }
 }

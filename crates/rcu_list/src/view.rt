@@ -60,7 +60,7 @@ impl<B: Site> ListView<B> {
 
     /// Of the list over a chain of the domain, whoever writes it.
     ///
-    /// Refused with `NoPlace` exactly where there is no such chain. It takes no memory and never waits.
+    /// Refused with `NoPlace` exactly where there is no such chain.
     pub fn of<P: GracePlan + Drop, K: MapRule, D: Deleter>(
         domain: &Domain<P, K, B, D>,
         chain: usize,
@@ -74,8 +74,7 @@ impl<B: Site> ListView<B> {
         Ok(ListView::at(chain))
     }
 
-    /// Of the list over this chain, which is one of the domain's, whoever writes it. It takes no memory and never
-    /// waits.
+    /// Of the list over this chain, which is one of the domain's, whoever writes it.
     pub fn at(chain: usize) -> ListView<B>
         requires { chain < B.sizes.chains }
         ensures { result.chain ≡ chain }
@@ -92,7 +91,6 @@ impl<B: Site> ListView<B> {
         held: Held,
         key: u64,
     ) -> Option<u64>
-        requires open_section { 0 < section.old.reader.now.core.depth }
         requires held { MayHoldIn section.old.reader.now.core held.cell }
         ensures reader { section.new.reader.ghost_name ≡ section.old.reader.ghost_name }
         ensures looked { Looks P.QSBR K.allows section.old.reader.now.core section.new.reader.now.core }
@@ -113,7 +111,6 @@ impl<B: Site> ListView<B> {
         first: Held,
         key: u64,
     ) -> Option<u64>
-        requires open_section { 0 < section.old.reader.now.core.depth }
         requires first { (o : ObjectId) × FindsFirst section.old.reader.now.core self.chain (Some o) × MayHold section.old.reader.now.core o first.cell }
         ensures reader { section.new.reader.ghost_name ≡ section.old.reader.ghost_name }
         ensures looked { Looks P.QSBR K.allows section.old.reader.now.core section.new.reader.now.core }
@@ -138,13 +135,12 @@ impl<B: Site> ListView<B> {
     /// and heard of. So a key that is there all along is found, also while its value is replaced.
     ///
     /// It loads the key of each object that it passes, its link, and the rank of the first one. It returns, since ranks
-    /// fall along the chain. It never waits and takes no memory.
+    /// fall along the chain.
     pub fn get<P: GracePlan, K: MapRule>(
         self,
         section: &mut Section<'_, P, K, B>,
         key: u64,
     ) -> Option<u64>
-        requires { 0 < section.old.reader.now.core.depth }
         ensures reader { section.new.reader.ghost_name ≡ section.old.reader.ghost_name }
         ensures looked { Looks P.QSBR K.allows section.old.reader.now.core section.new.reader.now.core }
         ensures window { AnswersBetween (log_of section.old.reader.now.core) section.old.reader.now.core.seat.me.0.heard (log_of section.new.reader.now.core) self.chain key result }
@@ -161,7 +157,6 @@ impl<B: Site> ListView<B> {
         section: &mut Section<'_, P, K, B>,
         held: Held,
     ) -> (u64, u64)
-        requires open_section { 0 < section.old.reader.now.core.depth }
         requires held { MayHoldIn section.old.reader.now.core held.cell }
         ensures reader { section.new.reader.ghost_name ≡ section.old.reader.ghost_name }
         ensures looked { Looks P.QSBR K.allows section.old.reader.now.core section.new.reader.now.core }
@@ -194,7 +189,6 @@ impl<B: Site> ListView<B> {
         bucket: u64,
         visit: &mut F,
     )
-        requires open_section { 0 < section.old.reader.now.core.depth }
         requires first { (o : ObjectId) × FindsFirst section.old.reader.now.core self.chain (Some o) × MayHold section.old.reader.now.core o first.cell }
         requires some { 0 < buckets }
         requires callable { F.IsAlwaysCallable visit.old }
@@ -226,7 +220,6 @@ impl<B: Site> ListView<B> {
         bucket: u64,
         visit: &mut F,
     )
-        requires open_section { 0 < section.old.reader.now.core.depth }
         requires some { 0 < buckets }
         requires callable { F.IsAlwaysCallable visit.old }
         ensures reader { section.new.reader.ghost_name ≡ section.old.reader.ghost_name }
@@ -246,13 +239,12 @@ impl<B: Site> ListView<B> {
     /// its value is replaced; one that never is there is not met; and each value is one that its key had meanwhile.
     ///
     /// It loads two words of each object that it passes, its link, and the rank of the first one. It returns where each
-    /// call does, since ranks fall along the chain. It never waits and takes no memory.
+    /// call does, since ranks fall along the chain.
     pub fn for_each<P: GracePlan, K: MapRule, F: FnMut(u64, u64)>(
         self,
         section: &mut Section<'_, P, K, B>,
         visit: &mut F,
     )
-        requires open_section { 0 < section.old.reader.now.core.depth }
         requires callable { F.IsAlwaysCallable visit.old }
         ensures reader { section.new.reader.ghost_name ≡ section.old.reader.ghost_name }
         ensures looked { Looks P.QSBR K.allows section.old.reader.now.core section.new.reader.now.core }

@@ -1,9 +1,6 @@
 -- What a handle keeps.
-use Rattle.std.proofs.Common.{◌≡◌, ℕ, List, Bool, true, false, Option, Some, None, is_some, refl, sym, ap, subst, ◌∙◌, true≢false}
-use Rattle.judging.specs.declared.text_judge.Finding.{Finding}
-use Rattle.judging.specs.declared.text_judge.Finding.TheVariants.{Yes, No, BadText, Memory}
-use Rattle.judging.specs.declared.text_judge.TextJudge.{TextJudge}
-use Rattle.judging.specs.Found.{WasFed, is_final}
+use Rattle.robiniagolf.proofs.Cited.{◌≡◌, ℕ, List, Bool, true, false, Option, is_some, refl, sym, ap, subst, ◌∙◌, true≢false, Finding, Yes, No, BadText, Memory, TextJudge, WasFed, is_final}
+use Rattle.std.proofs.Common.{Some, None}
 use Rattle.robiniagolf.specs.declared.verdict.Verdict.{Verdict}
 use Rattle.robiniagolf.specs.Verdicts.{IsDone, Keeps, answer_by, answer_of, verdict_by, verdict_of}
 

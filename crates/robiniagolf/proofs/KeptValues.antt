@@ -1,22 +1,8 @@
 -- The machine values of a `Kept`. Assumes `Logic`.
-use Rattle.std.proofs.Common.{◌≡◌, ℕ, List, [], ◌∷◌, ◌++◌, refl, subst}
-use Rattle.std.specs.Prelude.{Option, Some, None}
-use seplogic.Ra.Ura.{Ura}
+use Rattle.robiniagolf.proofs.Cited.{◌≡◌, ℕ, List, [], ◌∷◌, ◌++◌, refl, subst, Some, None, Ura, Val, vptr, vstruct, vcons, vnil, of_list, never, fst∗, Logic, sem, Item, Goal, Seq, Step, step, ‵, ◌$◌, drop, fsplit, fjoin, fpick, fpack, rewrite, feq_i, feq_l, Valss, RawPtr, lone, Ptr, block_ptr, null_ptr, ptr_val, in_a_block, nothing, within, shape, box_owns, heap_token, owned_at}
+use Rattle.std.specs.Prelude.{Option}
 use mir.Raw.{raw as bare}
-use mir.Val.{Val, vptr, vstruct, vcons, vnil, of_list}
-use base.Logic.{never, fst∗}
-use types.Logic.{Logic, sem}
-use types.Kit.{Item, Goal, Seq, Step, step, ‵, ◌$◌, drop, fsplit, fjoin, fpick, fpack, rewrite, feq_i, feq_l}
-use denote.RattleType.{Valss}
-use denote.Builtin.{RawPtr}
-use denote.Memory.{lone}
-use denote.RawPtr.{Ptr, block_ptr, null_ptr, ptr_val, in_a_block}
-use denote.Steps.{nothing}
-use denote.Struct.Struct.{within}
-use denote.Struct.Owning.{shape}
-use Rattle.std_alloc.specs.Box.Ownership.{box_owns}
 use Rattle.judging.specs.contracts.text_judge.TextJudge.{the_row as R}
-use Rattle.boxed_handle.specs.Owned.{heap_token, owned_at}
 use Rattle.robiniagolf.specs.contracts.kept.Kept as kept
 
 abbrev pub lone_val : Val → Val

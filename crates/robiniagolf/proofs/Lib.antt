@@ -1,2 +1,3 @@
+mod Cited
 pub mod KeptValues
 pub mod Handles

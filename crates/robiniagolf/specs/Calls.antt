@@ -74,7 +74,7 @@ SpentBy qsbr s t = SeesOn qsbr s t × (2 ^ 62 ≤ seq_of t.me.0.seen)
 
 -- ---- of the general-purpose flavour
 
--- a domain with so many slots
+-- a domain with this many slots
 abbrev pub MembHasSlots : ℕ → MembDomain → Type 0
 MembHasSlots slots d = (arc_value d.domain.table).slots ≡ slots
 
@@ -103,7 +103,7 @@ MembFindsNothing d e = (e.domain.table ≡ d.domain.table) × (e.domain.seat.me 
 abbrev pub MembWasGivenBack : MembReader → Type 0
 MembWasGivenBack r = (seat : LiveSeat) × IsGivenBack false ghosts.allows r.core seat
 
--- so many locks are open
+-- this many locks are open
 abbrev pub MembHasLocks : ℕ → MembReader → Type 0
 MembHasLocks n r = r.core.locks ≡ n
 
@@ -149,7 +149,7 @@ MembIsUsedUp g = (g.periods.steps.going ≡ false) × (2 ^ 62 < g.periods.steps.
 
 -- ---- of the quiescent-state flavour
 
--- a domain with so many slots
+-- a domain with this many slots
 abbrev pub QsbrHasSlots : ℕ → QsbrDomain → Type 0
 QsbrHasSlots slots d = (arc_value d.domain.table).slots ≡ slots
 
@@ -178,7 +178,7 @@ QsbrFindsNothing d e = (e.domain.table ≡ d.domain.table) × (e.domain.seat.me 
 abbrev pub QsbrWasGivenBack : QsbrReader → Type 0
 QsbrWasGivenBack r = (seat : LiveSeat) × IsGivenBack true ghosts.allows r.core seat
 
--- so many locks are open
+-- this many locks are open
 abbrev pub QsbrHasLocks : ℕ → QsbrReader → Type 0
 QsbrHasLocks n r = r.core.locks ≡ n
 

@@ -18,9 +18,9 @@ use std::alloc::{AllocFailed, Global};
 /// How many steps a call takes at most: more than a grace period has where none stands in its way.
 const MOST: u32 = 1024;
 
-/// Makes a domain with so many slots for readers, from 1 to 256, and its grace periods; the first step of what liburcu
-/// does once for all threads. 0 made, 3 memory, 5 a handle keeps something already, 11 a wrong number of slots. Where it
-/// is not 0, the handles are as they were.
+/// Makes a domain with this many slots for readers, from 1 to 256, and its grace periods; the first step of what
+/// liburcu does once for all threads. 0 made, 3 memory, 5 a handle keeps something already, 11 a wrong number of slots.
+/// Where it is not 0, the handles are as they were.
 #[unsafe(no_mangle)]
 pub extern "C" fn robiniagolf_memb_domain_new(
     alloc: Global,

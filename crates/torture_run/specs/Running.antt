@@ -20,7 +20,7 @@ counts_text Lists c = codes "run lists retired=" ++ decimal c.retired ++ codes "
 counts_text Tables c = codes "run tables retired=" ++ decimal c.retired ++ codes " finished=" ++ decimal c.finished ++ codes " wrong=" ++ decimal c.mixed ++ codes "\n"
 counts_text Growth c = codes "run growth retired=" ++ decimal c.retired ++ codes " finished=" ++ decimal c.finished ++ codes " wrong=" ++ decimal c.mixed ++ codes "\n"
 
--- all rounds of all updaters retired so many; a table that grows retires more
+-- all rounds of all updaters retired this many; a table that grows retires more
 abbrev pub is_as_many : Target → ℕ → ℕ → Bool
 is_as_many Growth whole retired = nat_le whole retired
 is_as_many _ whole retired = whole == retired

@@ -49,7 +49,7 @@ impl fmt::Display for CountsLine {
     }
 }
 
-/// Whether so many were retired as the updaters retire in all their rounds; a table that grows retires more.
+/// Whether as many were retired as the updaters retire in all their rounds; a table that grows retires more.
 fn is_whole(run: &Run, retired: u64) -> bool
     ensures { result ≡ is_whole run.now retired }
 {

@@ -1,10 +1,4 @@
-use Rattle.std.proofs.Common.{rules, ◌≡◌, ◌<◌, ℕ, List, length, subst}
-use Rattle.std.proofs.lemmas.Result.{err_from_is_err_and}
-use Rattle.schedule.specs.Ports.{Writes}
-use Rattle.schedule_text.proofs.Lemmas.{bad_within, some_read}
-use Rattle.call_text.specs.Grammar.{call_at}
-use Rattle.call_text.specs.Spelling.{CallText}
-use Rattle.call_text.proofs.Lemmas.{call_reads, no_call}
+use Rattle.calls.proofs.Cited.{rules, ◌≡◌, ◌<◌, ℕ, List, length, subst, err_from_is_err_and, Writes, bad_within, some_read, call_at, CallText, call_reads, no_call}
 use Rattle.calls.specs.Script.{StopsAt}
 use Rattle.calls.proofs.Answering.{answering_none, answering_more, answering_written, half_written, lines_end, lines_stop}
 use Rattle.calls.proofs.lines.answer_lines.Goals as goal

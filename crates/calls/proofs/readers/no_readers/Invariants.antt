@@ -1,5 +1,4 @@
-use Rattle.std.proofs.Common.{IfSome}
-use Rattle.std.specs.List.{All}
+use Rattle.calls.proofs.Cited.{IfSome, All}
 use Rattle.calls.specs.Standing.{Stands}
 use Rattle.calls.proofs.readers.no_readers.Given as goal
 

@@ -1,5 +1,4 @@
-use Rattle.std.proofs.Common.{List, ℕ, subst, inr}
-use Rattle.std.proofs.lemmas.Result.{err_from_is_err_and}
+use Rattle.calls.proofs.Cited.{List, ℕ, subst, inr, err_from_is_err_and}
 use Rattle.calls.specs.Script.{AnswersScript}
 use Rattle.calls.proofs.Scripts.{no_text}
 use Rattle.calls.proofs.script.answer_calls.Goals as goal

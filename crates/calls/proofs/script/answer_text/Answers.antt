@@ -1,7 +1,4 @@
-use Rattle.schedule_text.proofs.Lemmas.{bad_within}
-use Rattle.call_text.specs.Grammar.{header_at}
-use Rattle.call_text.specs.Header.{HeaderText}
-use Rattle.call_text.proofs.Lemmas.{header_reads}
+use Rattle.calls.proofs.Cited.{bad_within, header_at, HeaderText, header_reads}
 use Rattle.calls.proofs.Scripts.{has_header, has_none}
 use Rattle.calls.proofs.script.answer_text.Goals as goal
 

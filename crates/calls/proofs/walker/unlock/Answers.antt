@@ -1,5 +1,4 @@
-use Rattle.std.proofs.Common.{◌≡◌, ◌<◌, ℕ, IfSome, Some, arith, sym, subst}
-use Rattle.rcu_hash.specs.live_read.Holding.{KeepsHeld}
+use Rattle.calls.proofs.Cited.{◌≡◌, ◌<◌, ℕ, IfSome, Some, arith, sym, subst, KeepsHeld}
 use Rattle.calls.proofs.Holding.{either_on, keeps_same, stand_kept}
 use Rattle.calls.proofs.walker.unlock.Goals as goal
 

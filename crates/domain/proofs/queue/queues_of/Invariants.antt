@@ -1,5 +1,4 @@
-use Rattle.std.proofs.Common.{◌≡◌, ◌≤◌, [], vec_len, vec_capacity}
-use Rattle.live_words.specs.live_rule.declared.rights.QueueRight.TheVariants.{Spare}
+use Rattle.domain.proofs.Cited.{◌≡◌, ◌≤◌, [], vec_len, vec_capacity, Spare}
 use Rattle.domain.proofs.queue.queues_of.Given as goal
 
 abbrev pub invariant-loop-number : goal.invariant-loop-number

@@ -1,5 +1,4 @@
-use Rattle.live_log.specs.Log.{Log}
-use Rattle.live_log.proofs.Lemmas.{begins_trans}
+use Rattle.domain_tests.proofs.Cited.{Log, begins_trans}
 use Rattle.domain_tests.proofs.polling.polls_and_then_hears.Goals as goal
 
 pub returns : goal.returns

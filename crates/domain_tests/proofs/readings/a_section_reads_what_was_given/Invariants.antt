@@ -1,5 +1,4 @@
-use Rattle.std.specs.Prelude.{false}
-use Rattle.domain.specs.Naming.{names}
+use Rattle.domain_tests.proofs.Cited.{false, names}
 use Rattle.domain_tests.proofs.readings.a_section_reads_what_was_given.Given as goal
 
 abbrev pub ghosts-reads_alone : goal.ghosts-reads_alone

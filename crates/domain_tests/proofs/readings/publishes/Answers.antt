@@ -1,12 +1,4 @@
-use Rattle.std.proofs.Common.{rules, ◌≡◌, ◌∷◌, ℕ, List, refl, ap, ◌∙◌, Some, subst, sym}
-use Rattle.rcu_model.specs.declared.event.ObjectId.{ObjectId}
-use Rattle.live_log.specs.declared.event.LiveEvent.TheVariants.{Object}
-use Rattle.live_log.specs.declared.event.ObjectEvent.TheVariants.{Push}
-use Rattle.live_log.specs.Log.{Begins, Has, Log, payload_of, words_in}
-use Rattle.domain.specs.live_table.Rights.{cell_in, object_in, own_in}
-use Rattle.domain.specs.live_read.Holding.{MayHold, log_of}
-use Rattle.domain.specs.live_read.Reads.{FindsFirst}
-use Rattle.domain.specs.live_write.Chains.{list_in, push_by}
+use Rattle.domain_tests.proofs.Cited.{rules, ◌≡◌, ◌∷◌, ℕ, List, refl, ap, ◌∙◌, Some, subst, sym, ObjectId, Object, Push, Begins, Has, Log, payload_of, words_in, cell_in, object_in, own_in, MayHold, log_of, FindsFirst, list_in, push_by}
 use Rattle.domain_tests.proofs.Published.{four_words, none_so, own_words, so_some, some_so, written}
 use Rattle.domain_tests.proofs.readings.publishes.Goals as goal
 use Rattle.domain_tests.proofs.readings.publishes.Goals.{in-Some, in-None}

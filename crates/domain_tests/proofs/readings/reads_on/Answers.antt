@@ -1,10 +1,4 @@
-use Rattle.std.proofs.Common.{◌∷◌, Some, refl}
-use Rattle.rcu_model.specs.declared.event.ObjectId.{ObjectId}
-use Rattle.live_fit.specs.declared.Reading.TheVariants.{First, Touch}
-use Rattle.live_fit.specs.declared.Mark.TheVariants.{Read}
-use Rattle.live_fit.specs.Fit.{Readings, later}
-use Rattle.domain.specs.live_read.Holding.{MayHold}
-use Rattle.domain.specs.live_read.Reads.{FindsFirst, FindsNext}
+use Rattle.domain_tests.proofs.Cited.{◌∷◌, Some, refl, ObjectId, First, Touch, Read, Readings, later, MayHold, FindsFirst, FindsNext}
 use Rattle.domain_tests.proofs.Published.{some_so, next_found}
 use Rattle.domain_tests.proofs.readings.reads_on.Goals as goal
 

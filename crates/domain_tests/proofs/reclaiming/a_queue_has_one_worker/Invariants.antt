@@ -1,5 +1,4 @@
-use Rattle.std.specs.Prelude.{false}
-use Rattle.domain.specs.Naming.{names}
+use Rattle.domain_tests.proofs.Cited.{false, names}
 use Rattle.domain_tests.proofs.reclaiming.a_queue_has_one_worker.Given as goal
 
 abbrev pub ghosts-two_workers : goal.ghosts-two_workers

@@ -1,5 +1,4 @@
-use Rattle.std.specs.Prelude.{false}
-use Rattle.domain.specs.Naming.{names}
+use Rattle.domain_tests.proofs.Cited.{false, names}
 use Rattle.domain_tests.proofs.reclaiming.a_worker_runs_what_a_closed_queue_has.Given as goal
 
 abbrev pub ghosts-reclaims_one : goal.ghosts-reclaims_one

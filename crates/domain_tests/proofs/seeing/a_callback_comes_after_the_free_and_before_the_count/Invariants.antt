@@ -1,5 +1,4 @@
-use Rattle.std.specs.Prelude.{false}
-use Rattle.domain.specs.Naming.{names}
+use Rattle.domain_tests.proofs.Cited.{false, names}
 use Rattle.domain_tests.proofs.seeing.a_callback_comes_after_the_free_and_before_the_count.Given as goal
 
 abbrev pub ghosts-paused : goal.ghosts-paused

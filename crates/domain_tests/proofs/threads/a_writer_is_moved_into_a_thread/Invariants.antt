@@ -1,5 +1,4 @@
-use Rattle.std.specs.Prelude.{true}
-use Rattle.domain.specs.Naming.{names}
+use Rattle.domain_tests.proofs.Cited.{true, names}
 use Rattle.domain_tests.proofs.threads.a_writer_is_moved_into_a_thread.Given as goal
 
 abbrev pub ghosts-moves_a_writer : goal.ghosts-moves_a_writer

@@ -1,5 +1,4 @@
-use Rattle.std.specs.Prelude.{false}
-use Rattle.domain.specs.Naming.{names}
+use Rattle.domain_tests.proofs.Cited.{false, names}
 use Rattle.domain_tests.proofs.threads.threads_own_readers_and_share_domains.Given as goal
 
 abbrev pub ghosts-spawns : goal.ghosts-spawns

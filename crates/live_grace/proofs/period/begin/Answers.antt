@@ -1,17 +1,5 @@
 -- The first step of a grace period.
-use Rattle.std.proofs.Common.{◌≡◌, ℕ, ◌+◌, true, [], ◌∷◌, sym, refl, ap, ◌∙◌, subst, ⊎_elim}
-use Rattle.reader_word.specs.declared.layout.Layout.TheVariants.{Wide}
-use Rattle.gp_memb.specs.declared.plan.Action.TheVariants.{StoreSeq}
-use Rattle.gp_memb.specs.Plan.{present_after}
-use Rattle.atomic_table.specs.Table.{Me}
-use Rattle.live_log.specs.declared.callback_id.CallbackId.{CallbackId}
-use Rattle.live_words.specs.live_rule.declared.view.View.{View}
-use Rattle.live_log.specs.Log.{before_odd}
-use Rattle.live_log.specs.declared.event.LiveEvent.TheVariants.{SeqOdd}
-use Rattle.live_words.specs.live_rule.declared.rights.GraceRight.TheVariants.{Works}
-use Rattle.live_words.specs.live_table.Rights.{before_in, seq_in, present_in}
-use Rattle.live_words.specs.live_periods.Periods.{GraceBecomes}
-use Rattle.live_log.proofs.Lemmas.{begins_trans}
+use Rattle.live_grace.proofs.Cited.{◌≡◌, ℕ, ◌+◌, true, [], ◌∷◌, sym, refl, ap, ◌∙◌, subst, ⊎_elim, Wide, StoreSeq, present_after, Me, CallbackId, View, before_odd, SeqOdd, Works, before_in, seq_in, present_in, GraceBecomes, begins_trans}
 use Rattle.live_grace.specs.Going.{Going, InLoop}
 use Rattle.live_grace.proofs.Tellings.{told_first}
 use Rattle.live_grace.proofs.Goings.{starts_going}

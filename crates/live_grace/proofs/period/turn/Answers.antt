@@ -1,25 +1,5 @@
 -- A further step of a grace period.
-use Rattle.std.proofs.Common.{◌≡◌, ℕ, ◌+◌, ◌≤◌, ◌<◌, true, List, [], ◌∷◌, ◌++◌, arith, sym, refl, ap, ◌∙◌, subst}
-use Rattle.std.proofs.Math.Logic.{∥∥₁_elim}
-use Rattle.std.proofs.Math.Nat.{ℕ_set}
-use Rattle.std.specs.Coded.{le_prop}
-use Rattle.reader_word.specs.declared.layout.Layout.TheVariants.{Wide}
-use Rattle.gp_memb.specs.declared.plan.Action.{Action}
-use Rattle.gp_memb.specs.declared.plan.Action.TheVariants.{Load, LoadGroup, StorePhase, StoreSeq}
-use Rattle.gp_memb.specs.declared.plan.Turn.{Turn}
-use Rattle.gp_memb.specs.declared.plan.Turn.TheVariants.{Step, Wait}
-use Rattle.gp_memb.specs.Plan.{present_after}
-use Rattle.atomic_table.specs.Table.{Me}
-use Rattle.live_log.specs.declared.callback_id.CallbackId.{CallbackId}
-use Rattle.live_words.specs.live_rule.declared.view.View.{View}
-use Rattle.live_log.specs.Log.{Log, IsBound, MayBePresent}
-use Rattle.live_log.specs.declared.event.LiveEvent.TheVariants.{SeqOdd, SeqEven, Present}
-use Rattle.live_words.specs.live_rule.declared.rights.GraceRight.TheVariants.{Rests, Works}
-use Rattle.live_words.specs.live_rule.Places.{slot_at, group_at}
-use Rattle.live_words.specs.live_rule.declared.rights.GraceRight.{GraceRight}
-use Rattle.live_words.specs.live_rule.Steps.{at_log}
-use Rattle.live_words.specs.live_table.Rights.{looks_in, before_in, seq_in, present_in}
-use Rattle.live_words.specs.live_periods.Periods.{GraceBecomes}
+use Rattle.live_grace.proofs.Cited.{◌≡◌, ℕ, ◌+◌, ◌≤◌, ◌<◌, true, List, [], ◌∷◌, ◌++◌, arith, sym, refl, ap, ◌∙◌, subst, ∥∥₁_elim, ℕ_set, le_prop, Wide, Action, Load, LoadGroup, StorePhase, StoreSeq, Turn, Step, Wait, present_after, Me, CallbackId, View, Log, IsBound, MayBePresent, SeqOdd, SeqEven, Present, Rests, Works, slot_at, group_at, GraceRight, at_log, looks_in, before_in, seq_in, present_in, GraceBecomes}
 use Rattle.live_grace.specs.Answers.{Gained, stored_by}
 use Rattle.live_grace.specs.declared.period.Progress.TheVariants.{InTheWay}
 use Rattle.live_grace.specs.Going.{Begun, InLoop, IsLogged}

@@ -1,13 +1,4 @@
-use Rattle.std.proofs.Common.{◌≡◌, ℕ, [], ◌∷◌, refl, sym, ap, ◌∙◌, subst}
-use Rattle.rcu_model.specs.declared.event.ObjectId.{ObjectId}
-use Rattle.live_log.specs.declared.event.LiveEvent.TheVariants.{Object}
-use Rattle.live_log.specs.declared.event.ObjectEvent.TheVariants.{Queue, Retire}
-use Rattle.live_log.specs.Log.{Log, Begins}
-use Rattle.live_log.proofs.Lemmas.{begins_trans}
-use Rattle.live_words.specs.live_rule.declared.view.View.{View}
-use Rattle.live_words.specs.live_rule.Steps.{Precedes}
-use Rattle.live_words.specs.live_table.Rights.{object_in, queue_in, queued_in}
-use Rattle.live_words.specs.live_queues.Queues.{IsLast}
+use Rattle.live_items.proofs.Cited.{◌≡◌, ℕ, [], ◌∷◌, refl, sym, ap, ◌∙◌, subst, ObjectId, Object, Queue, Retire, Log, Begins, begins_trans, View, Precedes, object_in, queue_in, queued_in, IsLast}
 use Rattle.live_items.specs.Retiring.{Queues}
 use Rattle.live_items.proofs.retiring.queue_object.Goals as goal
 

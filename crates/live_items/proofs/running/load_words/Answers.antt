@@ -1,10 +1,4 @@
-use Rattle.std.proofs.Common.{◌≡◌, ℕ, [], ◌∷◌, ap, ◌∙◌, subst, slice_index_or}
-use Rattle.rcu_model.specs.declared.event.ObjectId.{ObjectId}
-use Rattle.rcu_model.specs.Sets.{In}
-use Rattle.live_log.specs.Log.{record_of, state_of}
-use Rattle.live_log.proofs.Lemmas.{begins_trans}
-use Rattle.live_words.specs.live_rule.declared.view.View.{View}
-use Rattle.live_words.specs.live_table.Rights.{object_in}
+use Rattle.live_items.proofs.Cited.{◌≡◌, ℕ, [], ◌∷◌, ap, ◌∙◌, subst, slice_index_or, ObjectId, In, record_of, state_of, begins_trans, View, object_in}
 use Rattle.live_items.proofs.Runnings.{went_on, word_stays}
 use Rattle.live_items.proofs.running.load_words.Goals as goal
 

@@ -1,6 +1,4 @@
-use Rattle.std.proofs.Common.{ℕ, ◌+◌, ◌<◌, [], ◌∷◌, ◌∙◌, refl, arith}
-use Rattle.live_words.specs.live_rule.declared.view.Look.TheVariants.{Loaded}
-use Rattle.live_words.specs.live_rule.Places.{group_at}
+use Rattle.live_read.proofs.Cited.{ℕ, ◌+◌, ◌<◌, [], ◌∷◌, ◌∙◌, refl, arith, Loaded, group_at}
 use Rattle.live_read.specs.Registering.{WasClaimed}
 use Rattle.live_read.proofs.Seeking.{claimed_more, finds_then, misses_then}
 use Rattle.live_read.proofs.claiming.claim_any.Goals as goal

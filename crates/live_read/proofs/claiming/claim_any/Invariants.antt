@@ -1,5 +1,4 @@
-use Rattle.std.proofs.Common.{ℕ, ◌<◌}
-use Rattle.live_words.specs.live_table.Steps.{Keeps}
+use Rattle.live_read.proofs.Cited.{ℕ, ◌<◌, Keeps}
 use Rattle.live_read.specs.Registering.{Misses, WasClaimed}
 use Rattle.live_read.proofs.claiming.claim_any.Given as goal
 

@@ -1,8 +1,4 @@
-use Rattle.std.proofs.Common.{◌/◌, [], ◌∷◌, ◌∙◌, sym, refl, inl, inr}
-use Rattle.rcu_model.proofs.Lemmas.{in_left}
-use Rattle.live_words.specs.live_rule.declared.view.Look.{Look}
-use Rattle.live_words.specs.live_rule.declared.view.Look.TheVariants.{Loaded, Stored}
-use Rattle.live_words.specs.live_rule.Places.{group_at}
+use Rattle.live_read.proofs.Cited.{◌/◌, [], ◌∷◌, ◌∙◌, sym, refl, inl, inr, in_left, Look, Loaded, Stored, group_at}
 use Rattle.live_read.specs.Registering.{WasClaimed}
 use Rattle.live_read.proofs.Seeking.{match_not, misses_then, sought_then}
 use Rattle.live_read.proofs.claiming.claim_if_free.Goals as goal

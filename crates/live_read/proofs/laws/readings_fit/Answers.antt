@@ -1,5 +1,4 @@
-use Rattle.std.proofs.Common.{[]}
-use Rattle.live_fit.specs.declared.Reading.TheVariants.{First, Next, Touch}
+use Rattle.live_read.proofs.Cited.{[], First, Next, Touch}
 use Rattle.live_read.specs.Holding.{log_of}
 use Rattle.live_read.proofs.Onward.{reads_nothing, reads_more, waits}
 use Rattle.live_read.proofs.laws.readings_fit.Goals as goal

@@ -1,6 +1,4 @@
-use Rattle.std.proofs.Common.{sym, ap, subst}
-use Rattle.live_log.specs.Log.{IsLiveRun}
-use Rattle.live_log.proofs.Lemmas.{begins_trans}
+use Rattle.live_read.proofs.Cited.{sym, ap, subst, IsLiveRun, begins_trans}
 use Rattle.live_read.proofs.Leaving.{both_later}
 use Rattle.live_read.proofs.telling.learn_more.Goals as goal
 

@@ -1,11 +1,4 @@
-use Rattle.std.proofs.Common.{◌≡◌, [], ◌∷◌, refl, sym, ap, ◌∙◌, subst, inr, arith}
-use Rattle.live_log.specs.Log.{Log, Begins}
-use Rattle.live_log.proofs.Lemmas.{begins_trans, has_since}
-use Rattle.live_words.specs.live_rule.declared.view.View.{View}
-use Rattle.live_words.specs.live_rule.declared.rights.WorkRight.{WorkRight}
-use Rattle.live_words.specs.live_table.Rights.{finished_in, work_in}
-use Rattle.live_words.specs.live_queues.Queues.{HasRunAt}
-use Rattle.callback_queue.specs.declared.item.Ripe.{Ripe}
+use Rattle.live_reclaim.proofs.Cited.{◌≡◌, [], ◌∷◌, refl, sym, ap, ◌∙◌, subst, inr, arith, Log, Begins, begins_trans, has_since, View, WorkRight, finished_in, work_in, HasRunAt, Ripe}
 use Rattle.live_reclaim.specs.Batches.{ripe_in}
 use Rattle.live_reclaim.proofs.Running.{ripe_stays}
 use Rattle.live_reclaim.proofs.Ripening.{has_run, ripe_next, stands_later}

@@ -1,10 +1,4 @@
-use Rattle.std.proofs.Common.{◌≡◌, ℕ, ◌∷◌, sym, ap, ◌∙◌, arith}
-use Rattle.live_log.proofs.Lemmas.{begins_trans}
-use Rattle.live_words.specs.live_rule.declared.view.Look.TheVariants.{Loaded, Stored}
-use Rattle.live_words.specs.live_rule.declared.view.View.{View}
-use Rattle.live_words.specs.live_rule.declared.rights.WorkRight.TheVariants.{Works}
-use Rattle.live_words.specs.live_rule.Places.{finished_at, work_at}
-use Rattle.live_words.specs.live_table.Rights.{finished_in}
+use Rattle.live_reclaim.proofs.Cited.{◌≡◌, ℕ, ◌∷◌, sym, ap, ◌∙◌, arith, begins_trans, Loaded, Stored, View, Works, finished_at, work_at, finished_in}
 use Rattle.live_reclaim.specs.Working.{Looks}
 use Rattle.live_reclaim.proofs.work.begin_work.Goals as goal
 

@@ -1,6 +1,4 @@
-use Rattle.std.proofs.Common.{◌≡◌, sym, ◌∙◌, arith}
-use Rattle.std.proofs.lemmas.Bool.Decides.{nat_tests}
-use Rattle.live_log.proofs.Lemmas.{closed_stays}
+use Rattle.live_reclaim.proofs.Cited.{◌≡◌, sym, ◌∙◌, arith, nat_tests, closed_stays}
 use Rattle.live_reclaim.proofs.Looking.{later_twice, looked_twice}
 use Rattle.live_reclaim.proofs.work.is_emptied.Goals as goal
 

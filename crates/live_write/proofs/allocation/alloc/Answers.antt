@@ -1,10 +1,4 @@
-use Rattle.std.proofs.Common.{◌++◌, ◌∙◌, List, sym, ap, subst, append-nil}
-use Rattle.std.proofs.lemmas.Result.{err_from_is_err_and}
-use Rattle.atomic_table.specs.Table.{Me}
-use Rattle.live_words.specs.live_rule.declared.view.Look.{Look}
-use Rattle.live_words.specs.live_rule.declared.view.Sizes.{Sizes}
-use Rattle.live_log.specs.declared.callback_id.CallbackId.{CallbackId}
-use Rattle.live_words.specs.live_rule.declared.view.View.{View}
+use Rattle.live_write.proofs.Cited.{◌++◌, ◌∙◌, List, sym, ap, subst, append-nil, err_from_is_err_and, Me, Look, Sizes, CallbackId, View}
 use Rattle.live_write.specs.Searching.{GetsNoRecord, TakesFor, TakesRecord}
 use Rattle.live_write.proofs.allocation.alloc.Goals as goal
 

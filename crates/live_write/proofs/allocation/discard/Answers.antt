@@ -1,10 +1,4 @@
-use Rattle.std.proofs.Common.{◌∷◌, ◌++◌, ◌∙◌, sym, ap, subst}
-use Rattle.atomic_table.specs.Table.{Me}
-use Rattle.live_log.specs.Log.{Begins, Log}
-use Rattle.live_log.specs.declared.callback_id.CallbackId.{CallbackId}
-use Rattle.live_words.specs.live_rule.declared.view.View.{View}
-use Rattle.live_log.proofs.Lemmas.{begins_trans}
-use Rattle.live_read.specs.Hearing.{IsAfter}
+use Rattle.live_write.proofs.Cited.{◌∷◌, ◌++◌, ◌∙◌, sym, ap, subst, Me, Begins, Log, CallbackId, View, begins_trans, IsAfter}
 use Rattle.live_write.proofs.allocation.discard.Goals as goal
 
 pub returns-clause-heard : goal.returns-clause-heard

@@ -1,10 +1,4 @@
-use Rattle.std.proofs.Common.{◌≡◌, ◌≢◌, ◌+◌, [], ◌∷◌, ◌++◌, inr, refl}
-use Rattle.rcu_model.specs.declared.event.ObjectId.{ObjectId}
-use Rattle.live_words.specs.live_rule.declared.rights.RecordRight.{RecordRight}
-use Rattle.live_words.specs.live_rule.declared.rights.RecordRight.TheVariants.{Drawn, Fresh}
-use Rattle.live_words.specs.live_rule.Places.{cell_at, last_at}
-use Rattle.live_words.specs.live_table.Rights.{link_in, object_in, payload_in}
-use Rattle.live_words.proofs.live_table.Lemmas.{found_left, found_right, stores_then}
+use Rattle.live_write.proofs.Cited.{◌≡◌, ◌≢◌, ◌+◌, [], ◌∷◌, ◌++◌, inr, refl, ObjectId, RecordRight, Drawn, Fresh, cell_at, last_at, link_in, object_in, payload_in, found_left, found_right, stores_then}
 use Rattle.live_write.specs.Searching.{DrawsNumber}
 use Rattle.live_write.proofs.Searching.{searched_then, takes_then}
 use Rattle.live_write.proofs.allocation.take_filled.Goals as goal

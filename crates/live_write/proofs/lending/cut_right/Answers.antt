@@ -1,9 +1,4 @@
-use Rattle.std.proofs.Common.{List, [], ◌++◌, ap, ◌∙◌, subst}
-use Rattle.live_log.specs.Log.{Log, Begins}
-use Rattle.live_words.specs.live_rule.Seats.{lent_chains, own_chain}
-use Rattle.live_words.specs.live_rule.declared.rights.ChainRight.{ChainRight}
-use Rattle.live_words.specs.live_rule.declared.view.View.{View}
-use Rattle.live_words.specs.live_table.Rights.{own_in}
+use Rattle.live_write.proofs.Cited.{List, [], ◌++◌, ap, ◌∙◌, subst, Log, Begins, lent_chains, own_chain, ChainRight, View, own_in}
 use Rattle.live_write.proofs.Behind.{behind, has_own, listed_same, own_alone}
 use Rattle.live_write.proofs.lending.cut_right.Goals as goal
 

@@ -1,9 +1,4 @@
-use Rattle.std.proofs.Common.{List, ◌++◌, ap, sym, ◌∙◌, subst}
-use Rattle.live_log.specs.Log.{Log, Begins}
-use Rattle.live_log.proofs.Lemmas.{begins_trans}
-use Rattle.live_words.specs.live_rule.declared.rights.ChainRight.{ChainRight}
-use Rattle.live_words.specs.live_rule.declared.view.View.{View}
-use Rattle.live_words.specs.live_table.Rights.{AreAsKnown}
+use Rattle.live_write.proofs.Cited.{List, ◌++◌, ap, sym, ◌∙◌, subst, Log, Begins, begins_trans, ChainRight, View, AreAsKnown}
 use Rattle.live_write.proofs.Behind.{HasOwn, has_more}
 use Rattle.live_write.proofs.lending.take_right.Goals as goal
 

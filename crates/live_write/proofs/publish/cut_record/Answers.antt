@@ -1,12 +1,4 @@
-use Rattle.std.proofs.Common.{[], ◌+◌, List, length, ◌∙◌, Some, ap, sym, refl, subst}
-use Rattle.rcu_model.specs.declared.event.ObjectId.{ObjectId}
-use Rattle.rcu_model.specs.Sets.{In, without_object}
-use Rattle.rcu_model.proofs.Lemmas.{follows_has}
-use Rattle.live_log.specs.Log.{Log}
-use Rattle.live_words.specs.live_rule.declared.view.View.{View}
-use Rattle.live_words.specs.live_rule.declared.rights.ChainRight.{ChainRight}
-use Rattle.live_words.specs.live_table.Rights.{IsListed, object_in, own_in}
-use Rattle.live_words.specs.live_chains.Chains.{cut_of}
+use Rattle.live_write.proofs.Cited.{[], ◌+◌, List, length, ◌∙◌, Some, ap, sym, refl, subst, ObjectId, In, without_object, follows_has, Log, View, ChainRight, IsListed, object_in, own_in, cut_of}
 use Rattle.live_write.specs.Chains.{Publishes, list_in}
 use Rattle.live_write.proofs.Walking.{one_fewer, once_in}
 use Rattle.live_write.proofs.Publishing.{hears_caller, may_write, makes_last, published, cut_same, cut_stands, cut_leaves}

@@ -1,7 +1,4 @@
-use Rattle.std.proofs.Common.{ap, sym, ◌∙◌, subst}
-use Rattle.live_log.specs.Log.{Log}
-use Rattle.live_words.specs.live_rule.declared.view.View.{View}
-use Rattle.live_words.specs.live_chains.Chains.{push_of}
+use Rattle.live_write.proofs.Cited.{ap, sym, ◌∙◌, subst, Log, View, push_of}
 use Rattle.live_write.specs.Chains.{Publishes, push_by}
 use Rattle.live_write.proofs.Publishing.{hears_owner, has_record, may_write, makes_last, published, push_same}
 use Rattle.live_write.proofs.publish.push_record.Goals as goal

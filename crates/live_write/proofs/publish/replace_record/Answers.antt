@@ -1,13 +1,4 @@
-use Rattle.std.proofs.Common.{◌≡◌, ◌+◌, ◌∷◌, List, length, ◌∙◌, Some, ap, sym, refl, subst, inr}
-use Rattle.rcu_model.specs.Sets.{next_of}
-use Rattle.rcu_model.proofs.Lemmas.{follows_has}
-use Rattle.live_log.specs.Log.{Log, objects_of}
-use Rattle.live_words.specs.live_rule.declared.view.View.{View}
-use Rattle.live_words.specs.live_rule.declared.rights.ChainRight.{ChainRight}
-use Rattle.live_words.specs.live_rule.Objects.{ref}
-use Rattle.live_words.specs.live_rule.Seats.{lent_chains}
-use Rattle.live_words.specs.live_table.Rights.{IsListed, object_in, own_in}
-use Rattle.live_words.specs.live_chains.Chains.{replace_of}
+use Rattle.live_write.proofs.Cited.{◌≡◌, ◌+◌, ◌∷◌, List, length, ◌∙◌, Some, ap, sym, refl, subst, inr, next_of, follows_has, Log, objects_of, View, ChainRight, ref, lent_chains, IsListed, object_in, own_in, replace_of}
 use Rattle.live_write.specs.Chains.{Publishes, list_in, replace_by}
 use Rattle.live_write.proofs.Walking.{as_many, went_both}
 use Rattle.live_write.proofs.Publishing.{hears_owner, has_record, makes_last, may_write, published, replace_same, replace_stands, replace_leaves}

@@ -1,8 +1,4 @@
-use Rattle.std.proofs.Common.{ℕ, [], ap, sym, ◌∙◌, subst}
-use Rattle.live_log.specs.declared.event.LiveEvent.TheVariants.{ChainNote}
-use Rattle.live_log.specs.Log.{Log}
-use Rattle.live_words.specs.live_rule.declared.view.View.{View}
-use Rattle.live_words.specs.live_table.Rights.{own_in}
+use Rattle.live_write.proofs.Cited.{ℕ, [], ap, sym, ◌∙◌, subst, ChainNote, Log, View, own_in}
 use Rattle.live_write.specs.Chains.{Publishes}
 use Rattle.live_write.proofs.Publishing.{hears_caller, makes_last, may_note, published}
 use Rattle.live_write.proofs.publish.write_note.Goals as goal

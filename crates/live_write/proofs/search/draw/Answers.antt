@@ -1,9 +1,4 @@
-use Rattle.std.proofs.Common.{ℕ, ◌+◌, List, [], ◌∷◌, ◌++◌, ◌∙◌, refl, ap, inl, inr, arith}
-use Rattle.rcu_model.specs.declared.event.ObjectId.{ObjectId}
-use Rattle.live_words.specs.live_rule.declared.view.Look.{Look}
-use Rattle.live_words.specs.live_rule.declared.view.Look.TheVariants.{Loaded, Stored}
-use Rattle.live_words.specs.live_rule.declared.rights.RecordRight.TheVariants.{Drawn}
-use Rattle.live_words.specs.live_rule.Places.{last_at}
+use Rattle.live_write.proofs.Cited.{ℕ, ◌+◌, List, [], ◌∷◌, ◌++◌, ◌∙◌, refl, ap, inl, inr, arith, ObjectId, Look, Loaded, Stored, Drawn, last_at}
 use Rattle.live_write.proofs.Searching.{searched_then}
 use Rattle.live_write.proofs.search.draw.Goals as goal
 

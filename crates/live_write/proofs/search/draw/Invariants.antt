@@ -1,9 +1,4 @@
-use Rattle.std.proofs.Common.{List}
-use Rattle.rcu_model.specs.Sets.{In}
-use Rattle.live_words.specs.live_rule.declared.view.Look.{Look}
-use Rattle.live_words.specs.live_rule.declared.view.Look.TheVariants.{Loaded}
-use Rattle.live_words.specs.live_rule.Places.{last_at}
-use Rattle.live_words.specs.live_table.Steps.{Keeps}
+use Rattle.live_write.proofs.Cited.{List, In, Look, Loaded, last_at, Keeps}
 use Rattle.live_write.specs.Searching.{Searched, StoresNothing}
 use Rattle.live_write.proofs.search.draw.Given as goal
 

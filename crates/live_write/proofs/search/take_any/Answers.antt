@@ -1,6 +1,4 @@
-use Rattle.std.proofs.Common.{[], ◌++◌, arith}
-use Rattle.std.proofs.lemmas.Option.{IfSome_then}
-use Rattle.live_words.proofs.live_table.Lemmas.{stores_then}
+use Rattle.live_write.proofs.Cited.{[], ◌++◌, arith, IfSome_then, stores_then}
 use Rattle.live_write.proofs.Searching.{if_none, searched_then, taken_all, takes_then}
 use Rattle.live_write.proofs.search.take_any.Goals as goal
 

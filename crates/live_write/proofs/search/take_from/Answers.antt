@@ -1,5 +1,4 @@
-use Rattle.std.proofs.Common.{[], ◌++◌, ◌∙◌}
-use Rattle.live_words.proofs.live_table.Lemmas.{stores_then}
+use Rattle.live_write.proofs.Cited.{[], ◌++◌, ◌∙◌, stores_then}
 use Rattle.live_write.proofs.Searching.{searched_then, taken_more, takes_then}
 use Rattle.live_write.proofs.search.take_from.Goals as goal
 

@@ -1,6 +1,4 @@
-use Rattle.std.proofs.Common.{ℕ, ◌<◌, ◌≤◌, List}
-use Rattle.live_words.specs.live_rule.declared.view.Look.{Look}
-use Rattle.live_words.specs.live_table.Steps.{Keeps}
+use Rattle.live_write.proofs.Cited.{ℕ, ◌<◌, ◌≤◌, List, Look, Keeps}
 use Rattle.live_write.specs.Searching.{IsTaken, Searched, StoresNothing}
 use Rattle.live_write.proofs.search.take_from.Given as goal
 

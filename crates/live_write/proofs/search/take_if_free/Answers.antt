@@ -1,9 +1,4 @@
-use Rattle.std.proofs.Common.{◌*◌, [], ◌∷◌, refl, inl}
-use Rattle.live_words.specs.live_rule.declared.view.Look.{Look}
-use Rattle.live_words.specs.live_rule.declared.view.Look.TheVariants.{Loaded, Stored}
-use Rattle.live_words.specs.live_rule.declared.rights.RecordRight.TheVariants.{Fresh}
-use Rattle.live_words.specs.live_rule.Places.{cell_at}
-use Rattle.live_words.specs.live_table.Rights.{link_in, object_in, payload_in}
+use Rattle.live_write.proofs.Cited.{◌*◌, [], ◌∷◌, refl, inl, Look, Loaded, Stored, Fresh, cell_at, link_in, object_in, payload_in}
 use Rattle.live_write.proofs.Searching.{match_eq, searched_then}
 use Rattle.live_write.proofs.search.take_if_free.Goals as goal
 

@@ -1,6 +1,4 @@
-use Rattle.std.proofs.Common.{◌∙◌, ◌-◌, Some, arith, ap}
-use Rattle.live_words.specs.live_rule.declared.view.Sizes.{Sizes}
-use Rattle.live_words.specs.live_rule.declared.view.View.{View}
+use Rattle.live_write.proofs.Cited.{◌∙◌, ◌-◌, Some, arith, ap, Sizes, View}
 use Rattle.live_write.proofs.Walking.{here_word, may_read, goes_on}
 use Rattle.live_write.proofs.walk.count.Goals as goal
 

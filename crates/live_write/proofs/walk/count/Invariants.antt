@@ -1,5 +1,4 @@
-use Rattle.std.proofs.Common.{ℕ, Option}
-use Rattle.live_words.specs.live_table.Steps.{Keeps}
+use Rattle.live_write.proofs.Cited.{ℕ, Option, Keeps}
 use Rattle.live_write.proofs.Walking.{Stands}
 use Rattle.live_write.proofs.walk.count.Given as goal
 

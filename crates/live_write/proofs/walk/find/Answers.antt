@@ -1,7 +1,4 @@
-use Rattle.std.proofs.Common.{◌≡◌, ℕ, ◌∙◌, ◌-◌, ◌<◌, IfSome, arith, ap, sym, subst, slice_get, Some}
-use Rattle.live_words.specs.live_rule.declared.view.Sizes.{Sizes}
-use Rattle.live_words.specs.live_rule.declared.view.View.{View}
-use Rattle.live_words.specs.live_table.Rights.{own_in}
+use Rattle.live_write.proofs.Cited.{◌≡◌, ℕ, ◌∙◌, ◌-◌, ◌<◌, IfSome, arith, ap, sym, subst, slice_get, Some, Sizes, View, own_in}
 use Rattle.live_write.proofs.Walking.{here_index, may_read, goes_on, is_before, low_before}
 use Rattle.live_write.proofs.walk.find.Goals as goal
 

@@ -1,10 +1,4 @@
-use Rattle.std.proofs.Common.{length, ◌≡◌, ◌≢◌, ℕ, ◌-◌, ◌<◌, ◌∙◌, List, Some, slice_get, slice_index_or, arith, ap, sym, below_more}
-use Rattle.rcu_model.specs.declared.event.ObjectId.{ObjectId}
-use Rattle.rcu_model.specs.Sets.{In}
-use Rattle.rcu_model.proofs.Lemmas.{some_is}
-use Rattle.live_words.specs.live_rule.declared.view.Sizes.{Sizes}
-use Rattle.live_words.specs.live_rule.declared.view.View.{View}
-use Rattle.live_words.specs.live_table.Rights.{own_in}
+use Rattle.live_write.proofs.Cited.{length, ◌≡◌, ◌≢◌, ℕ, ◌-◌, ◌<◌, ◌∙◌, List, Some, slice_get, slice_index_or, arith, ap, sym, below_more, ObjectId, In, some_is, Sizes, View, own_in}
 use Rattle.live_write.specs.Chains.{first_word}
 use Rattle.live_write.proofs.Walking.{at_bound, at_end, goes_on, has_index, here_word, index_has, may_read, note_here, stands_on}
 use Rattle.live_write.proofs.walk.seek.Goals as goal

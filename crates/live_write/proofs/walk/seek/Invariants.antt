@@ -1,7 +1,4 @@
-use Rattle.std.proofs.Common.{◌≡◌, ◌≢◌, ℕ, ◌<◌, Option, Some, slice_get}
-use Rattle.rcu_model.specs.declared.event.ObjectId.{ObjectId}
-use Rattle.live_words.specs.live_table.Rights.{own_in}
-use Rattle.live_words.specs.live_table.Steps.{Keeps}
+use Rattle.live_write.proofs.Cited.{◌≡◌, ◌≢◌, ℕ, ◌<◌, Option, Some, slice_get, ObjectId, own_in, Keeps}
 use Rattle.live_write.specs.Chains.{first_word}
 use Rattle.live_write.proofs.Walking.{Stands}
 use Rattle.live_write.proofs.walk.seek.Given as goal

@@ -1,6 +1,5 @@
-use Rattle.std.proofs.Common.{◌≡◌}
+use Rattle.rcu.proofs.Cited.{◌≡◌, Each}
 use Rattle.rcu.specs.declared.reclaim.Reclaim.TheVariants.{Moved}
-use Rattle.rcu_hash.specs.Writers.{Each}
 use Rattle.rcu.proofs.map.moved.Given as goal
 
 abbrev pub invariant-loop : goal.invariant-loop

@@ -1,9 +1,4 @@
-use Rattle.std.proofs.Common.{◌≡◌, ◌∙◌, ◌++◌, ◌∷◌, [], refl, ap, sym, append_assoc}
-use Rattle.std.proofs.lemmas.Result.{IfErr-at_err}
-use Rattle.rcu_model.specs.declared.refusal.Refusal.TheVariants.{PoolFull}
-use Rattle.live_log.specs.Log.{Log}
-use Rattle.live_log.proofs.Lemmas.{begins_trans}
-use Rattle.rcu_hash.specs.live_write.Searching.{GetsNoRecord}
+use Rattle.rcu.proofs.Cited.{◌≡◌, ◌∙◌, ◌++◌, ◌∷◌, [], refl, ap, sym, append_assoc, IfErr-at_err, PoolFull, Log, begins_trans, GetsNoRecord}
 use Rattle.rcu.specs.Trying.{all_found}
 use Rattle.rcu.proofs.Hearing.{still_after, stays_on}
 use Rattle.rcu.proofs.waiting.alloc_when_free.Goals as goal

@@ -1,9 +1,5 @@
+use Rattle.rcu.proofs.Cited.{Begins, Stays, Look, GetsNoRecord, Each}
 use Rattle.std.specs.Prelude.{◌≡◌, ◌++◌, List}
-use Rattle.live_log.specs.Log.{Begins}
-use Rattle.rcu_hash.specs.live_read.Hearing.{Stays}
-use Rattle.rcu_hash.specs.live_rule.declared.view.Look.{Look}
-use Rattle.rcu_hash.specs.live_write.Searching.{GetsNoRecord}
-use Rattle.rcu_hash.specs.Writers.{Each}
 use Rattle.rcu.specs.Trying.{all_found}
 use Rattle.rcu.proofs.waiting.alloc_when_free.Given as goal
 

@@ -1,6 +1,4 @@
-use Rattle.std.proofs.Common.{refl, inl, inr, subst, sym}
-use Rattle.std.proofs.lemmas.Result.{err_from_is_err_and}
-use Rattle.live_log.proofs.Lemmas.{begins_trans}
+use Rattle.rcu.proofs.Cited.{refl, inl, inr, subst, sym, err_from_is_err_and, begins_trans}
 use Rattle.rcu.specs.Serving.{IsNotServed}
 use Rattle.rcu.proofs.Refused.{goes_none, goes_on, more_found}
 use Rattle.rcu.proofs.working.work.Goals as goal

@@ -1,10 +1,4 @@
-use Rattle.std.proofs.Common.{rules, ◌≡◌, ℕ, List, [], ◌∷◌, map, sym, ap, ◌∙◌, subst}
-use Rattle.std.proofs.lemmas.List.{map-append}
-use Rattle.rcu_model.specs.Sets.{In}
-use Rattle.rcu_model.proofs.Lemmas.{in_left}
-use Rattle.rcu_list.specs.live_table.Rights.{cell_in}
-use Rattle.rcu_hash.proofs.Copies.{in_behind}
-use Rattle.rcu_hash.proofs.Freeing.{but_weaker, keeps_one}
+use Rattle.rcu_hash.proofs.Cited.{cell_in, in_left, In, ◌≡◌, ℕ, [], ◌∷◌, ◌∙◌, List, sym, ap, subst, map, rules, map-append, in_behind, but_weaker, keeps_one}
 use Rattle.rcu_hash.proofs.copying.copy_key.Goals as goal
 
 pub returns-clause-cells : goal.returns-clause-cells

@@ -1,14 +1,4 @@
-use Rattle.std.proofs.Common.{◌≡◌, List, [], ◌∷◌, ◌++◌, map, refl, sym, ap, ◌∙◌, subst, ⊎_elim, arith}
-use Rattle.std.proofs.lemmas.List.{nil_from_length}
-use Rattle.live_log.specs.Log.{Log}
-use Rattle.live_log.proofs.Lemmas.{begins_trans}
-use Rattle.rcu_list.specs.live_rule.declared.view.Look.{Look}
-use Rattle.rcu_list.specs.live_rule.declared.view.Look.TheVariants.{Stored}
-use Rattle.rcu_list.specs.live_rule.Places.{cell_at}
-use Rattle.rcu_list.specs.live_table.Rights.{cell_in}
-use Rattle.rcu_list.proofs.Lemmas.{stays_both}
-use Rattle.rcu_hash.specs.Freeing.{FreesAllBut}
-use Rattle.rcu_hash.proofs.Freeing.{frees_one}
+use Rattle.rcu_hash.proofs.Cited.{begins_trans, Log, FreesAllBut, stays_both, cell_at, Look, Stored, cell_in, ◌≡◌, [], ◌∷◌, ◌∙◌, ◌++◌, List, refl, sym, ap, subst, arith, zero, map, ⊎_elim, nil_from_length, frees_one}
 use Rattle.rcu_hash.proofs.copying.discard_all.Goals as goal
 
 pub loop-init : goal.loop-init

@@ -1,10 +1,4 @@
-use Rattle.std.proofs.Common.{◌≡◌, ◌+◌, ◌++◌, List, map}
-use Rattle.std.specs.Vec.Iter.{into_iter_items, into_iter_len}
-use Rattle.live_log.specs.Log.{Begins, Log}
-use Rattle.rcu_list.specs.live_read.Hearing.{Stays}
-use Rattle.rcu_list.specs.live_rule.declared.view.Look.{Look}
-use Rattle.rcu_list.specs.live_table.Rights.{cell_in}
-use Rattle.rcu_hash.specs.Freeing.{FreesAllBut}
+use Rattle.rcu_hash.proofs.Cited.{Log, Begins, FreesAllBut, Stays, Look, cell_in, ◌≡◌, ◌+◌, ◌++◌, List, map, into_iter_items, into_iter_len}
 use Rattle.rcu_hash.proofs.copying.discard_all.Given as goal
 
 abbrev pub invariant-loop : goal.invariant-loop

@@ -1,28 +1,4 @@
-use Rattle.std.proofs.Common.{◌≡◌, ◌<◌, ◌+◌, ◌%◌, ◌++◌, ℕ, List, [], ◌∷◌, Some, length, map, slice_get, option_map, vec_len, refl, sym, ap, ◌∙◌, subst, arith}
-use Rattle.std.proofs.Math.Seq.{map-set_same}
-use Rattle.std.proofs.lemmas.List.{append-nil, length-append, map-set, nil_from_length}
-use Rattle.std.proofs.lemmas.Nat.{mod_below}
-use Rattle.std.proofs.lemmas.Option.{slice_get-map, slice_get_read}
-use Rattle.live_log.specs.declared.event.LiveEvent.{LiveEvent}
-use Rattle.live_log.specs.declared.event.LiveEvent.TheVariants.{Object}
-use Rattle.live_log.specs.declared.event.ObjectEvent.TheVariants.{Push}
-use Rattle.live_log.specs.Log.{Log, Begins}
-use Rattle.live_log.specs.Tables.{tabled}
-use Rattle.live_log.proofs.Lemmas.{begins_trans}
-use Rattle.rcu_list.specs.live_table.Rights.{cell_in, object_in, own_in}
-use Rattle.rcu_list.specs.live_read.Hearing.{OnlyMakesMany}
-use Rattle.rcu_list.proofs.live_read.Lemmas.{more_only, one_only}
-use Rattle.rcu_list.specs.live_write.Chains.{list_in, push_by}
-use Rattle.rcu_list.specs.Maps.{words_of}
-use Rattle.rcu_hash.specs.Copies.{AreRanked, value_among}
-use Rattle.rcu_hash.specs.Growing.{CopiesAll}
-use Rattle.rcu_hash.specs.Leaving.{Writes}
-use Rattle.rcu_hash.specs.Tables.{bucket_of}
-use Rattle.rcu_hash.specs.Writers.{Each, HasKeysIn, HasNoNote, IsAlone, value_at}
-use Rattle.rcu_hash.proofs.Copies.{Holds, each_at, each_set, each_weaker, filled_more, hold_nothing, holds_next, may_put, next_new, no_value, put_holds, put_value, ranked_next, split_next}
-use Rattle.rcu_hash.proofs.Emptying.{writes_weaker}
-use Rattle.rcu_hash.proofs.Filling.{copies_more, from_at}
-use Rattle.rcu_hash.proofs.Regrown.{numbers_from}
+use Rattle.rcu_hash.proofs.Cited.{begins_trans, Log, Begins, tabled, LiveEvent, Object, Push, AreRanked, value_among, CopiesAll, Writes, bucket_of, Each, HasKeysIn, IsAlone, HasNoNote, value_at, more_only, one_only, words_of, OnlyMakesMany, own_in, cell_in, object_in, list_in, push_by, ◌≡◌, ℕ, ◌+◌, [], ◌∷◌, ◌∙◌, ◌%◌, ◌<◌, ◌++◌, List, length, refl, sym, ap, subst, arith, Some, map, slice_get, option_map, vec_len, map-set_same, append-nil, length-append, nil_from_length, map-set, mod_below, slice_get-map, slice_get_read, each_at, each_set, filled_more, Holds, hold_nothing, no_value, may_put, put_value, put_holds, holds_next, split_next, next_new, ranked_next, writes_weaker, from_at, copies_more, numbers_from, each_map}
 use Rattle.rcu_hash.proofs.copying.fill.Goals as goal
 
 pub loop-init : goal.loop-init
@@ -79,7 +55,7 @@ loop-preserved g c =
       counted = omega (arith, length-append i.done ((x.key, x.value) ∷ []), i.counted);
       split = split_next (λ c. (c.key, c.value)) (λ c. c.rank) all i.done c.loop.rest.rest.items c.next.new.self.rest.items x next i.split;
       ranked = rank.1;
-      holds = subst (Each (Holds (c.loop.counter + 1))) set_is (each_set (Holds (c.loop.counter + 1)) vs k now.seat.me.0 (each_weaker (Holds (c.loop.counter + 1)) (Holds c.loop.counter) vs (holds_next c.loop.counter) i.holds)
+      holds = subst (Each (Holds (c.loop.counter + 1))) set_is (each_set (Holds (c.loop.counter + 1)) vs k now.seat.me.0 (each_map (Holds c.loop.counter) (Holds (c.loop.counter + 1)) (holds_next c.loop.counter) vs i.holds)
           (put_holds q v (w.seen w1) (w.heard w1) x.owned.seat.me.0.seen chain.owns.0 chain.owns.1 c.loop.counter holds x.owned.seat.me.0 x.key x.value words now.seat.me.0 p.pushed list p.list.1 p.list.2));
       values = subst (λ us. (key : ℕ) → value_at (slice_get us (key % n)) key ≡ value_among (i.done ++ (x.key, x.value) ∷ []) key) set_is
           (filled_more value_at n vs i.done (x.key, x.value) v now.seat.me.0 at new
@@ -107,31 +83,18 @@ loop-preserved g c =
       same = more_only w w0 w1 w2 c.loop.counter 1 i.same (one_only w w1 w2 now.seat.me.0.seen p.same);
     }
 
-pub returns-clause-values : goal.returns-clause-values
-returns-clause-values g c key =
-    let i = c.loop.invariant in let vs = map (λ c. c.seat.me.0) c.loop.chains.items in
-    let none : c.loop.rest.rest.items ≡ [] = nil_from_length c.loop.rest.rest.items (let left = i.left in let end = c.loop-test.false in let most = c.loop.auto.counter-end in let ok = c.loop.rest.rest.ok.0 in omega arith) in
-    let all = i.split ∙ (ap (λ l. i.done ++ map (λ c. (c.key, c.value)) l) none ∙ append-nil i.done) in
-    ap (λ n. value_at (slice_get vs (key % n)) key) i.many ∙ (i.values key ∙ ap (λ es. value_among es key) (sym all))
-
-pub returns-clause-filled : goal.returns-clause-filled
-returns-clause-filled g c start from =
-    let q = g.P.GracePlan.QSBR in let w = g.W.Caller in let w0 = c.args.caller.now in let w1 = c.loop.caller in let i = c.loop.invariant in
-    let none : c.loop.rest.rest.items ≡ [] = nil_from_length c.loop.rest.rest.items (let left = i.left in let end = c.loop-test.false in let most = c.loop.auto.counter-end in let ok = c.loop.rest.rest.ok.0 in omega arith) in
-    let all = i.split ∙ (ap (λ l. i.done ++ map (λ c. (c.key, c.value)) l) none ∙ append-nil i.done) in
-    subst (λ (es : List (ℕ × ℕ)). CopiesAll (Writes q tabled (w.seen w0)) start (vec_len c.args.chains.now) 0 (w.heard w0) es (w.heard w1)) (sym all)
-    (subst (λ (n : ℕ). CopiesAll (Writes q tabled (w.seen w0)) start n 0 (w.heard w0) i.done (w.heard w1)) c.len-buckets.ensures (i.filled start from))
-
-pub returns-clause-known : goal.returns-clause-known
-returns-clause-known g c =
-    let i = c.loop.invariant in let vs = map (λ c. c.seat.me.0) c.loop.chains.items in let k = c.loop.counter in (
-      each_weaker HasKeysIn (Holds k) vs (λ v h. h.keys) i.holds,
-      each_weaker HasNoNote (Holds k) vs (λ v h. h.unnoted) i.holds,
-      each_weaker IsAlone (Holds k) vs (λ v h. h.alone) i.holds,
-    )
-
-pub returns-clause-same : goal.returns-clause-same
-returns-clause-same g c =
-    let i = c.loop.invariant in
-    let all : c.loop.counter ≡ vec_len c.args.copied = let left = i.left in let end = c.loop-test.false in let most = c.loop.auto.counter-end in let many = c.len-many.ensures in omega arith in
-    subst (OnlyMakesMany g.W.Caller c.args.caller.now c.loop.caller) all i.same
+pub returns : goal.returns
+returns g c =
+    let q = g.P.GracePlan.QSBR in let w = g.W.Caller in let w0 = c.args.caller.now in let w1 = c.loop.caller in let i = c.loop.invariant in let vs = map (λ c. c.seat.me.0) c.loop.chains.items in let k = c.loop.counter in let rest = c.loop.rest.rest in
+    let end = c.loop-test.false in let most = c.loop.auto.counter-end in let left = i.left in
+    let none : rest.items ≡ [] = nil_from_length rest.items (let ok = rest.ok.0 in omega arith) in
+    let many : k ≡ vec_len c.args.copied = let many = c.len-many.ensures in omega arith in
+    let all = i.split ∙ (ap (λ l. i.done ++ map (λ c. (c.key, c.value)) l) none ∙ append-nil i.done) in record {
+      values = λ key. ap (λ n. value_at (slice_get vs (key % n)) key) i.many ∙ (i.values key ∙ ap (λ es. value_among es key) (sym all));
+      filled = λ start from. subst (λ (es : List (ℕ × ℕ)). CopiesAll (Writes q tabled (w.seen w0)) start (vec_len c.args.chains.now) 0 (w.heard w0) es (w.heard w1)) (sym all)
+          (subst (λ (n : ℕ). CopiesAll (Writes q tabled (w.seen w0)) start n 0 (w.heard w0) i.done (w.heard w1)) c.len-buckets.ensures (i.filled start from));
+      chains = (i.many ∙ c.len-buckets.ensures, i.numbers);
+      known = (each_map (Holds k) HasKeysIn (λ v h. h.keys) vs i.holds, each_map (Holds k) HasNoNote (λ v h. h.unnoted) vs i.holds, each_map (Holds k) IsAlone (λ v h. h.alone) vs i.holds);
+      heard = i.heard;
+      same = subst (OnlyMakesMany w w0 w1) many i.same;
+    }

@@ -1,13 +1,4 @@
-use Rattle.std.proofs.Common.{◌≡◌, ◌+◌, ◌%◌, ◌++◌, ℕ, List, length, map, slice_get, vec_len}
-use Rattle.std.specs.Vec.Iter.{into_iter_items, into_iter_len}
-use Rattle.live_log.specs.Log.{Begins}
-use Rattle.live_log.specs.Tables.{tabled}
-use Rattle.rcu_list.specs.live_read.Hearing.{OnlyMakesMany}
-use Rattle.rcu_hash.specs.Copies.{AreRanked, value_among}
-use Rattle.rcu_hash.specs.Growing.{CopiesAll}
-use Rattle.rcu_hash.specs.Leaving.{Writes}
-use Rattle.rcu_hash.specs.Writers.{AreFrom, Each, value_at}
-use Rattle.rcu_hash.proofs.Copies.{Holds}
+use Rattle.rcu_hash.proofs.Cited.{Begins, tabled, AreRanked, value_among, CopiesAll, Writes, AreFrom, Each, value_at, OnlyMakesMany, ◌≡◌, ℕ, ◌+◌, ◌%◌, ◌++◌, List, length, map, slice_get, vec_len, into_iter_items, into_iter_len, Holds}
 use Rattle.rcu_hash.proofs.copying.fill.Given as goal
 
 -- some entries are in their chains, and the others follow

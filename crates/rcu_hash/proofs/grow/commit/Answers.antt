@@ -1,30 +1,4 @@
-use Rattle.std.proofs.Common.{◌≡◌, ◌<◌, ◌^◌, ◌⊎◌, ◌+◌, ◌%◌, ◌≤◌, ℕ, List, [], ◌∷◌, Some, length, map, vec_len, slice_index_or, sym, ap, ◌∙◌, subst, arith}
-use Rattle.rcu_model.specs.declared.event.ObjectId.{ObjectId}
-use Rattle.std.proofs.lemmas.List.{length-map}
-use Rattle.live_log.specs.Log.{Log, Begins, record_of, state_of}
-use Rattle.live_log.specs.Tables.{reserved, tabled}
-use Rattle.live_log.proofs.Lemmas.{begins_trans, run_of}
-use Rattle.rcu_list.specs.live_rule.Seats.{lent_chains}
-use Rattle.rcu_list.specs.live_rule.declared.rights.ChainRight.{ChainRight}
-use Rattle.rcu_list.specs.live_table.Rights.{IsListed, object_in, own_in, payload_in}
-use Rattle.rcu_list.proofs.Lemmas.{chain_known}
-use Rattle.rcu_hash.specs.Copies.{value_among, value_in_bucket}
-use Rattle.rcu_hash.specs.Directories.{buckets_in}
-use Rattle.rcu_hash.specs.Growing.{CopiesAll, Exchanges, Grows, NotesAll}
-use Rattle.rcu_hash.specs.Leaving.{LeavesMap, Writes}
-use Rattle.rcu_hash.specs.Naming.{words_by}
-use Rattle.rcu_hash.specs.Tidying.{IsLinked, IsRecord, IsRest, IsTidied}
-use Rattle.rcu_hash.specs.Writers.{AreFrom, Each, HasKeysIn, HasNote, IsOutside}
-use Rattle.rcu_hash.specs.declared.directory.Naming.{Naming}
-use Rattle.rcu_hash.proofs.Emptying.{leaves_weaker}
-use Rattle.rcu_hash.proofs.Exchanging.{each_all}
-use Rattle.rcu_hash.proofs.Filling.{copies_leave, copies_weaker, notes_leave}
-use Rattle.rcu_hash.proofs.Holds.{pair_from}
-use Rattle.rcu_hash.proofs.Named.{lent_used, own_used, words_later}
-use Rattle.rcu_hash.proofs.Regrown.{all_outside, numbers_from, pair_keys, pair_values}
-use Rattle.rcu_list.specs.live_read.Hearing.{OnlyMakesMany}
-use Rattle.rcu_list.proofs.live_read.Lemmas.{more_only, none_only, one_only}
-use Rattle.rcu_hash.proofs.Tidied.{linked_by, rest_later, rest_replaced}
+use Rattle.rcu_hash.proofs.Cited.{run_of, begins_trans, Log, Begins, record_of, state_of, reserved, tabled, value_among, value_in_bucket, buckets_in, CopiesAll, NotesAll, Grows, Exchanges, LeavesMap, Writes, words_by, IsRest, IsLeft, IsLinked, IsTidied, IsRecord, AreFrom, Each, HasKeysIn, HasNote, Naming, chain_known, more_only, one_only, none_only, OnlyMakesMany, lent_chains, ChainRight, IsListed, own_in, object_in, payload_in, ObjectId, ◌≡◌, ℕ, ◌+◌, ◌≤◌, [], ◌∷◌, ◌∙◌, ◌⊎◌, ◌%◌, ◌<◌, ◌^◌, List, length, sym, ap, subst, arith, Some, map, slice_index_or, vec_len, length-map, leaves_weaker, each_left, copies_weaker, copies_leave, notes_leave, numbers_from, pair_keys, pair_values, all_outside, pair_from, words_later, own_used, lent_used, each_all, rest_later, linked_by, rest_replaced}
 use Rattle.rcu_hash.proofs.grow.commit.Goals as goal
 
 pub invariant_of-directory : goal.invariant_of-directory
@@ -107,12 +81,9 @@ invariant_of-result g c =
     (subst (λ (m : Naming). IsLinked m.directory m.object start) (sym is) known.2) (subst (λ (p : ObjectId). IsLinked z.directory p log) named linked) (subst (λ (m : Naming). IsTidied m.directory start) (sym is) known.3))
     in record {
       some = λ one. let more = d.fits.0 in let has = length-map items (λ y. y.seat.me.0) in omega (arith, more, has, many, c.exchange-directory.result.2.ok);
-      alone = x.olds.2;
-      keys = x.olds.3;
-      notes = subst (λ (m : Naming). Each (HasNote (m.directory + 1)) vs) (sym x.directory) x.olds.4;
+      left = subst (λ (m : Naming). Each (IsLeft m.directory m.first m.buckets) vs) (sym x.directory) (each_left d.naming.directory first (vec_len c.reserve_all-owned.result.1) vs x.olds.2 x.olds.3 x.olds.4
+          (all_outside d.naming.first d.naming.buckets first (vec_len c.reserve_all-owned.result.1) d.naming.first vs apart (omega arith) (omega arith) x.olds.1));
       replaced = subst (λ (m : Naming). IsRecord m.directory c.exchange-directory.result.1.chain c.exchange-directory.result.1.seat.me.0) (sym x.directory) x.unlinked;
-      outside = subst (λ (m : Naming). ∥ Each (IsOutside m.first m.buckets) vs ∥₁) (sym x.directory)
-          ∣ all_outside d.naming.first d.naming.buckets first (vec_len c.reserve_all-owned.result.1) d.naming.first vs apart (omega arith) (omega arith) x.olds.1 ∣₁;
       rest =
           let y = c.hear-2.ensures in let t : Log = c.hear-2.new.caller.seat.me.0.heard in
           rest_later g.P.GracePlan.QSBR e.directory e.object vs (Some (object_in u.seat.me.0.object)) log t (subst (λ (l : Log). Begins l t) (sym x.told) y.told.0) y.heard.run y.linked (subst (λ (k : ℕ). IsRest k e.object vs (Some (object_in u.seat.me.0.object)) log) (sym same) rest);

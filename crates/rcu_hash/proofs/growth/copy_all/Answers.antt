@@ -1,17 +1,4 @@
-use Rattle.std.proofs.Common.{◌≡◌, ◌++◌, ◌+◌, ℕ, List, [], ◌∷◌, length, map, sym, ap, ◌∙◌, subst, arith}
-use Rattle.std.proofs.lemmas.List.{length-map, map-append}
-use Rattle.std.proofs.lemmas.Result.{err_from_is_err_and}
-use Rattle.live_log.proofs.Lemmas.{begins_trans}
-use Rattle.rcu_list.specs.live_rule.declared.view.View.{View}
-use Rattle.rcu_list.specs.live_table.Rights.{cell_in}
-use Rattle.rcu_list.proofs.Lemmas.{stays_both}
-use Rattle.rcu_hash.specs.declared.directory.Naming.{Naming}
-use Rattle.rcu_hash.specs.Copies.{value_among, value_in_bucket}
-use Rattle.rcu_hash.specs.Writers.{AreFrom, Each}
-use Rattle.rcu_hash.proofs.Copies.{found_more}
-use Rattle.rcu_hash.proofs.Freeing.{but_both}
-use Rattle.rcu_hash.proofs.Holds.{each_last, from_last, looks_both}
-use Rattle.rcu_hash.proofs.Taking.{bucket_copied}
+use Rattle.rcu_hash.proofs.Cited.{begins_trans, value_among, value_in_bucket, AreFrom, Each, Naming, stays_both, View, cell_in, ◌≡◌, ℕ, ◌+◌, [], ◌∷◌, ◌∙◌, ◌++◌, List, length, sym, ap, subst, arith, map, map-append, length-map, err_from_is_err_and, found_more, looks_both, each_last, from_last, bucket_copied, but_both}
 use Rattle.rcu_hash.proofs.growth.copy_all.Goals as goal
 
 pub loop-number-preserved : goal.loop-number-preserved

@@ -1,11 +1,4 @@
-use Rattle.std.proofs.Common.{◌≡◌, ◌≤◌, ◌++◌, ℕ, List, map, vec_capacity, vec_len}
-use Rattle.live_log.specs.Log.{Begins}
-use Rattle.rcu_list.specs.live_read.Hearing.{Stays}
-use Rattle.rcu_list.specs.live_rule.declared.view.Look.{Look}
-use Rattle.rcu_list.specs.live_table.Rights.{cell_in}
-use Rattle.rcu_hash.specs.Copies.{AreApart, AreRanked, value_among, value_in_bucket}
-use Rattle.rcu_hash.specs.Freeing.{FreesAllBut}
-use Rattle.rcu_hash.specs.Writers.{AreFrom, Each}
+use Rattle.rcu_hash.proofs.Cited.{Begins, AreApart, AreRanked, value_among, value_in_bucket, FreesAllBut, AreFrom, Each, Stays, Look, cell_in, ◌≡◌, ℕ, ◌≤◌, ◌++◌, List, map, vec_len, vec_capacity}
 use Rattle.rcu_hash.proofs.growth.copy_all.Given as goal
 
 -- the buckets up to this number are taken, and their keys copied

@@ -1,7 +1,4 @@
-use Rattle.std.proofs.Common.{[], refl, ◌∙◌}
-use Rattle.std.proofs.lemmas.Result.{err_from_is_err_and}
-use Rattle.rcu_model.specs.declared.refusal.Refusal.TheVariants.{Memory}
-use Rattle.rcu_hash.proofs.Freeing.{not_full}
+use Rattle.rcu_hash.proofs.Cited.{Memory, [], ◌∙◌, refl, err_from_is_err_and, not_full}
 use Rattle.rcu_hash.proofs.growth.reserve_directory.Goals as goal
 
 pub returns-in_err-old_lents-clause-looks : goal.returns-in_err-old_lents-clause-looks

@@ -1,5 +1,4 @@
-use Rattle.std.proofs.Common.{◌≡◌, ◌+◌}
-use Rattle.std.specs.Vec.Iter.{into_iter_len}
+use Rattle.rcu_hash.proofs.Cited.{◌≡◌, ◌+◌, into_iter_len}
 use Rattle.rcu_hash.proofs.growth.restock.Given as goal
 
 abbrev pub invariant-loop-number : goal.invariant-loop-number

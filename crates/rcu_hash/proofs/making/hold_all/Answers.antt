@@ -1,19 +1,4 @@
-use Rattle.std.proofs.Common.{◌≡◌, ◌<◌, ⊎_elim, ◌++◌, ◌+◌, ℕ, List, [], ◌∷◌, length, map, sym, ap, ◌∙◌, subst, append_assoc, arith}
-use Rattle.std.proofs.lemmas.Result.{err_from_is_err_and}
-use Rattle.std.proofs.lemmas.List.{length-append, length-map, map-append}
-use Rattle.rcu_model.specs.Sets.{In}
-use Rattle.live_log.specs.Log.{Log, Begins}
-use Rattle.live_log.specs.Tables.{tabled}
-use Rattle.live_log.proofs.Lemmas.{begins_trans}
-use Rattle.rcu_list.specs.live_rule.declared.view.Look.{Look}
-use Rattle.rcu_list.specs.live_rule.declared.view.Look.TheVariants.{Loaded, Stored}
-use Rattle.rcu_list.specs.live_rule.Places.{hold_at}
-use Rattle.rcu_list.proofs.Lemmas.{stays_both}
-use Rattle.rcu_hash.specs.Tables.{IsAmong}
-use Rattle.rcu_hash.specs.Writers.{AreFrom, Each, IsAlone, IsEmpty}
-use Rattle.rcu_hash.proofs.Freeing.{frees_both, holds_free}
-use Rattle.rcu_hash.proofs.Holds.{each_last, from_last}
-use Rattle.rcu_hash.proofs.Taking.{free_more, other_hold, place_of, taken_since}
+use Rattle.rcu_hash.proofs.Cited.{begins_trans, Log, Begins, tabled, IsAmong, AreFrom, Each, IsAlone, IsEmpty, stays_both, hold_at, Look, Stored, Loaded, In, ◌≡◌, ℕ, ◌+◌, [], ◌∷◌, ◌∙◌, ◌<◌, ◌++◌, List, length, sym, ap, subst, arith, map, append_assoc, ⊎_elim, map-append, length-append, length-map, err_from_is_err_and, each_last, from_last, free_more, taken_since, place_of, other_hold, frees_both, holds_free}
 use Rattle.rcu_hash.proofs.making.hold_all.Goals as goal
 
 pub loop-number-preserved : goal.loop-number-preserved

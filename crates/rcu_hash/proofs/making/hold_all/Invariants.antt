@@ -1,13 +1,5 @@
-use Rattle.std.proofs.Common.{◌≡◌, ◌≤◌, ◌<◌, ◌+◌, ◌++◌, List, length, map, vec_len, vec_capacity}
-use Rattle.live_log.specs.Log.{Begins}
-use Rattle.rcu_list.specs.live_read.Hearing.{Stays}
-use Rattle.live_log.specs.Tables.{tabled}
-use Rattle.rcu_hash.specs.Refusing.{FindsFree}
-use Rattle.rcu_hash.specs.Tables.{IsAmong}
-use Rattle.rcu_hash.specs.Writers.{AreFrom, Each, IsAlone, IsEmpty}
-use Rattle.rcu_hash.proofs.Taking.{AreHoldsOf}
+use Rattle.rcu_hash.proofs.Cited.{Begins, tabled, FindsFree, IsAmong, AreFrom, Each, IsAlone, IsEmpty, Stays, Look, ◌≡◌, ◌+◌, ◌≤◌, ◌<◌, ◌++◌, List, length, map, vec_len, vec_capacity, AreHoldsOf}
 use Rattle.rcu_hash.proofs.making.hold_all.Given as goal
-use Rattle.rcu_list.specs.live_rule.declared.view.Look.{Look}
 
 abbrev pub invariant-loop-number : goal.invariant-loop-number
 invariant-loop-number g l =

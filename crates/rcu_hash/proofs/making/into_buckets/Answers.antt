@@ -1,4 +1,4 @@
-use Rattle.std.proofs.Common.{length, ap, arith}
+use Rattle.rcu_hash.proofs.Cited.{length, ap, arith}
 use Rattle.rcu_hash.proofs.making.into_buckets.Goals as goal
 
 pub loop-init : goal.loop-init

@@ -1,7 +1,4 @@
-use Rattle.std.proofs.Common.{◌≡◌, ◌≤◌, ◌+◌, map, vec_len, vec_capacity}
-use Rattle.std.specs.Vec.Iter.{into_iter_items, into_iter_len}
-use Rattle.rcu_hash.specs.Buckets.{IsBucket}
-use Rattle.rcu_hash.specs.Writers.{Each}
+use Rattle.rcu_hash.proofs.Cited.{IsBucket, Each, ◌≡◌, ◌+◌, ◌≤◌, map, vec_len, vec_capacity, into_iter_items, into_iter_len}
 use Rattle.rcu_hash.proofs.making.into_buckets.Given as goal
 
 abbrev pub invariant-loop : goal.invariant-loop

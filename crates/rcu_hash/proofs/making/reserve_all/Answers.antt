@@ -1,20 +1,4 @@
-use Rattle.std.proofs.Common.{◌≡◌, ◌+◌, ◌++◌, ℕ, List, [], ◌∷◌, map, refl, sym, ap, ◌∙◌, subst, inl, inr, length, vec_len, suc, arith}
-use Rattle.std.proofs.lemmas.List.{append-nil, length-map, map-append, nil_from_length}
-use Rattle.std.specs.Vec.Iter.{into_iter_items}
-use Rattle.live_log.specs.declared.event.LiveEvent.TheVariants.{ChainNote}
-use Rattle.live_log.specs.Log.{Log, Begins, chain_note}
-use Rattle.live_log.specs.Tables.{reserved, tabled}
-use Rattle.live_log.proofs.Lemmas.{begins_trans}
-use Rattle.rcu_list.specs.live_rule.declared.view.View.{View}
-use Rattle.rcu_list.specs.live_read.Hearing.{OnlyMakesMany}
-use Rattle.rcu_list.specs.live_table.Rights.{AreAsKnown, object_in}
-use Rattle.rcu_list.proofs.live_read.Lemmas.{more_only, none_only, one_only}
-use Rattle.rcu_hash.specs.Growing.{NotesAll}
-use Rattle.rcu_hash.specs.Leaving.{Writes}
-use Rattle.rcu_hash.specs.Writers.{Each, HasNoNote, HasNote, IsAlone, IsRunIn, IsSame, Pairwise}
-use Rattle.rcu_hash.proofs.Emptying.{writes_weaker}
-use Rattle.rcu_hash.proofs.Filling.{from_behind, notes_more}
-use Rattle.rcu_hash.proofs.Holds.{each_head, each_last, pair_from, pair_same, pair_step}
+use Rattle.rcu_hash.proofs.Cited.{chain_note, reserved, tabled, NotesAll, Writes, IsAlone, HasNoNote, OnlyMakesMany, View, object_in, AreAsKnown, ◌≡◌, ℕ, ◌+◌, [], ◌∷◌, ◌∙◌, ◌++◌, List, length, refl, sym, ap, subst, inl, inr, arith, map, vec_len, map-append, length-map, nil_from_length, into_iter_items, AreNoted, none_noted, one_noted, all_noted, each_head}
 use Rattle.rcu_hash.proofs.making.reserve_all.Goals as goal
 
 pub loop-init : goal.loop-init
@@ -23,13 +7,8 @@ loop-init g c =
       left = omega arith;
       room = (omega (arith, ap length none, c.args.kept.ok), let fits = c.requires.room.1 in omega arith);
       wait = rw same c.requires.chains;
-      same = rw (same, none) (pair_same (map (λ x. x.seat.me.0) c.args.chains.items));
-      kept = rw none (tt, tt);
-      notes = λ start from. ([], refl);
-      runs = rw none tt;
-      heard = ([], refl);
+      noted = rw (same, none) (none_noted g.W.Caller g.P.GracePlan.QSBR (reserved (object_in c.args.owned.seat.me.0.object)) c.args.caller.now (map (λ x. x.seat.me.0) c.args.chains.items));
       owned = refl;
-      told = none_only g.W.Caller c.args.caller.now c.args.caller.now (((refl, refl, (λ h. h), refl), refl), refl);
     }
 
 pub reserve-owned-requires : goal.reserve-owned-requires
@@ -42,63 +21,30 @@ reserve-owned-requires g c = record {
 
 pub loop-preserved : goal.loop-preserved
 loop-preserved g c =
-    let w = g.W.Caller in let w0 = c.args.caller.now in let w1 = c.loop.caller in let w2 = c.reserve-owned.new.caller in
-    let i = c.loop.invariant in let first = c.in-Some.ensures.cases.0 in let left = into_iter_items c.loop.rest in let rest = into_iter_items c.next.new.self in
+    let q = g.P.GracePlan.QSBR in let w = g.W.Caller in let w0 = c.args.caller.now in let w1 = c.loop.caller in let w2 = c.reserve-owned.new.caller in let note : ℕ = reserved (object_in c.args.owned.seat.me.0.object) in
+    let i = c.loop.invariant in let first = c.in-Some.ensures.cases.0 in let left = into_iter_items c.loop.rest in let rest = into_iter_items c.next.new.self in let all = map (λ x. x.seat.me.0) c.args.chains.items in
     let chain = c.in-Some.chain in let one = c.reserve-owned.new.self in let e = c.reserve-owned.ensures in let p = c.push_reserved.ensures in let had = c.loop.kept.items in
     let views : map (λ x. x.seat.me.0) c.push_reserved.new.self.items ≡ map (λ x. x.seat.me.0) had ++ one.seat.me.0 ∷ [] = ap (map (λ x. x.seat.me.0)) p.items ∙ map-append (λ x. x.seat.me.0) had (one ∷ []) in
-    let note : ℕ = reserved (object_in c.args.owned.seat.me.0.object) in let object : reserved (object_in c.loop.owned.seat.me.0.object) ≡ note = ap (λ r. reserved (object_in r)) i.owned in
-    let wait = each_head HasNoNote (λ x. x.seat.me.0) left rest chain first i.wait.0 in let alone = each_head IsAlone (λ x. x.seat.me.0) left rest chain first i.wait.1 in
-    let before : Log = e.noted.before in let last : Log = one.seat.me.0.seen in
-    let goes : Begins before last = (_ ∷ [], e.noted.wrote) in
-    let heard : Begins (w.heard w1) before = e.noted.after.after_caller.1 in record {
+    let object : reserved (object_in c.loop.owned.seat.me.0.object) ≡ note = ap (λ r. reserved (object_in r)) i.owned in let alone = each_head IsAlone (λ x. x.seat.me.0) left rest chain first i.wait.1 in record {
       left = let shorter = c.in-Some.ensures.cases.1 in let was = i.left in omega arith;
       room = let len = p.len in let same = p.capacity in let was = i.room in (omega arith, omega arith);
-      wait = (wait.1, alone.1);
-      same = subst (λ (vs : List View). Pairwise IsSame (map (λ x. x.seat.me.0) c.args.chains.items) (vs ++ map (λ x. x.seat.me.0) rest)) (sym views)
-          (pair_step (map (λ x. x.seat.me.0) c.args.chains.items) (map (λ x. x.seat.me.0) had) (map (λ x. x.seat.me.0) rest) chain.seat.me.0 one.seat.me.0
-          (subst (λ xs. Pairwise IsSame (map (λ x. x.seat.me.0) c.args.chains.items) (map (λ x. x.seat.me.0) had ++ map (λ x. x.seat.me.0) xs)) first i.same)
-          (one.owns.2 ∙ (e.note.3 ∙ sym chain.owns.2), e.note.1, begins_trans chain.seat.me.0.seen before last e.noted.after.after_writer.0 goes));
-      kept = (
-        subst (Each (HasNote note)) (sym views) (each_last (HasNote note) (map (λ x. x.seat.me.0) had) one.seat.me.0 i.kept.0 (e.note.0 ∙ object)),
-        subst (Each IsAlone) (sym views) (each_last IsAlone (map (λ x. x.seat.me.0) had) one.seat.me.0 i.kept.1 (e.note.2 ∙ alone.0)),
-      );
-      notes = λ start from.
-          let behind = subst (λ xs. Pairwise IsSame (map (λ x. x.seat.me.0) c.args.chains.items) (map (λ x. x.seat.me.0) had ++ map (λ x. x.seat.me.0) xs)) first i.same in
-          let place : length (map (λ x. x.seat.me.0) had) ≡ c.loop.counter = length-map had (λ x. x.seat.me.0) ∙ (sym c.loop.kept.ok.0 ∙ i.room.0) in
-          let number : chain.number ≡ start + c.loop.counter = sym chain.owns.2 ∙ (from_behind start (map (λ x. x.seat.me.0) had) (map (λ x. x.seat.me.0) rest) chain.seat.me.0
-          (pair_from start (map (λ x. x.seat.me.0) c.args.chains.items) (map (λ x. x.seat.me.0) had ++ chain.seat.me.0 ∷ map (λ x. x.seat.me.0) rest) behind from) ∙ ap (λ (k : ℕ). start + k) place) in
-          let next : suc c.loop.counter ≡ c.loop.counter + 1 = omega arith in
-          subst (λ (k : ℕ). NotesAll (Writes g.P.GracePlan.QSBR tabled (w.seen w0)) note start k (w.heard w0) (w.heard w2)) next
-          (subst (NotesAll (Writes g.P.GracePlan.QSBR tabled (w.seen w0)) note start (suc c.loop.counter) (w.heard w0)) (sym e.heard)
-          (notes_more (Writes g.P.GracePlan.QSBR tabled (w.seen w0)) (writes_weaker g.P.GracePlan.QSBR tabled (w.seen w0)) note start c.loop.counter (w.heard w0) (w.heard w1) last (i.notes start from) (record {
-            before = before;
-            wrote = e.noted.wrote ∙ (λ k. ChainNote (number k) (object k) ∷ before);
-            after = (subst (λ (l : Log). Begins l before) i.told.0.made.0 e.noted.after.after_caller.0, heard);
-            run = e.noted.run;
-          })));
-      runs = subst (Each (IsRunIn g.P.GracePlan.QSBR)) (sym views) (each_last (IsRunIn g.P.GracePlan.QSBR) (map (λ x. x.seat.me.0) had) one.seat.me.0 i.runs e.noted.run);
-      heard = begins_trans (w.heard w0) (w.heard w1) (w.heard w2) i.heard (subst (Begins (w.heard w1)) (sym e.heard) (begins_trans (w.heard w1) before last heard goes));
+      wait = ((each_head HasNoNote (λ x. x.seat.me.0) left rest chain first i.wait.0).1, alone.1);
+      noted = subst (λ (vs : List View). AreNoted w q note w0 all w2 (c.loop.counter + 1) vs (map (λ x. x.seat.me.0) rest)) (sym views)
+          (one_noted w q note w0 all w1 w2 c.loop.counter (map (λ x. x.seat.me.0) had) (map (λ x. x.seat.me.0) rest) chain.seat.me.0 one.seat.me.0 chain.number (reserved (object_in c.loop.owned.seat.me.0.object)) c.loop.owned.seat.me.0.seen
+          (subst (λ xs. AreNoted w q note w0 all w1 c.loop.counter (map (λ x. x.seat.me.0) had) (map (λ x. x.seat.me.0) xs)) first i.noted)
+          (length-map had (λ x. x.seat.me.0) ∙ (sym c.loop.kept.ok.0 ∙ i.room.0)) chain.owns.2 object e.noted (one.owns.2 ∙ (e.note.3 ∙ sym chain.owns.2), e.note.1) (e.note.0 ∙ object) (e.note.2 ∙ alone.0) e.heard e.same);
       owned = e.owned.0 ∙ i.owned;
-      told = more_only w w0 w1 w2 c.loop.counter 1 i.told (one_only w w1 w2 last e.same);
     }
 
-pub returns-clause-kept : goal.returns-clause-kept
-returns-clause-kept g c =
-    let left = into_iter_items c.loop.rest in let i = c.loop.invariant in let none : left ≡ [] = nil_from_length left (omega (arith, c.loop.rest.rest.ok, i.left)) in (
-      let room = i.room in let many = c.len-many.ensures in omega arith,
-      subst (Pairwise IsSame (map (λ x. x.seat.me.0) c.args.chains.items)) (ap (λ xs. map (λ x. x.seat.me.0) c.loop.kept.items ++ map (λ x. x.seat.me.0) xs) none ∙ append-nil (map (λ x. x.seat.me.0) c.loop.kept.items)) i.same,
-      i.kept.0,
-      i.kept.1,
-    )
-
-pub returns-clause-told : goal.returns-clause-told
-returns-clause-told g c start from =
-    let w = g.W.Caller in let w0 = c.args.caller.now in let w1 = c.loop.caller in let i = c.loop.invariant in
-    let all : c.loop.counter ≡ vec_len c.args.chains = let end = c.loop-test.false in let most = c.loop.auto.counter-end in let many = c.len-many.ensures in omega arith in
-    subst (λ (k : ℕ). NotesAll (Writes g.P.GracePlan.QSBR tabled (w.seen w0)) (reserved (object_in c.args.owned.seat.me.0.object)) start k (w.heard w0) (w.heard w1)) all (i.notes start from)
-
-pub returns-clause-same : goal.returns-clause-same
-returns-clause-same g c =
-    let w = g.W.Caller in let i = c.loop.invariant in
-    let all : c.loop.counter ≡ vec_len c.args.chains = let end = c.loop-test.false in let most = c.loop.auto.counter-end in let many = c.len-many.ensures in omega arith in
-    subst (OnlyMakesMany w c.args.caller.now c.loop.caller) all i.told
+pub returns : goal.returns
+returns g c =
+    let w = g.W.Caller in let w0 = c.args.caller.now in let left = into_iter_items c.loop.rest in let i = c.loop.invariant in let n = i.noted in let note : ℕ = reserved (object_in c.args.owned.seat.me.0.object) in
+    let none : left ≡ [] = nil_from_length left (omega (arith, c.loop.rest.rest.ok, i.left)) in
+    let many : c.loop.counter ≡ vec_len c.args.chains = let was = i.left in let end = c.loop-test.false in let most = c.loop.auto.counter-end in let many = c.len-many.ensures in omega arith in record {
+      owned = i.owned;
+      kept = (let room = i.room in omega arith, all_noted w g.P.GracePlan.QSBR note w0 (map (λ x. x.seat.me.0) c.args.chains.items) c.loop.caller c.loop.counter (map (λ x. x.seat.me.0) c.loop.kept.items) (map (λ x. x.seat.me.0) left) n (ap (map (λ x. x.seat.me.0)) none), n.noted, n.alone);
+      told = λ start from. subst (λ (k : ℕ). NotesAll (Writes g.P.GracePlan.QSBR tabled (w.seen w0)) note start k (w.heard w0) (w.heard c.loop.caller)) many (n.notes start from);
+      runs = n.runs;
+      heard = n.heard;
+      same = subst (OnlyMakesMany w w0 c.loop.caller) many n.told;
+    }

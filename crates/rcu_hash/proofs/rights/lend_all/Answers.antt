@@ -1,9 +1,4 @@
-use Rattle.std.proofs.Common.{◌≡◌, [], ◌++◌, length, map, refl, sym, ap, ◌∙◌, arith}
-use Rattle.std.proofs.lemmas.List.{nil_from_length}
-use Rattle.std.specs.Vec.Iter.{into_iter_items}
-use Rattle.live_log.proofs.Lemmas.{begins_trans}
-use Rattle.rcu_hash.specs.Writers.{IsAlone, lengths_of, rights_of}
-use Rattle.rcu_hash.proofs.Lending.{all_done, all_reached, each_first, lent_one, paired, reaches_on, right_lent}
+use Rattle.rcu_hash.proofs.Cited.{begins_trans, IsAlone, lengths_of, rights_of, ◌≡◌, [], ◌∙◌, ◌++◌, length, refl, sym, ap, arith, map, nil_from_length, into_iter_items, each_head, paired, all_done, lent_one, right_lent, reaches_on, all_reached}
 use Rattle.rcu_hash.proofs.rights.lend_all.Goals as goal
 
 pub loop-init : goal.loop-init
@@ -22,7 +17,7 @@ loop-init g c =
 
 pub lend-requires : goal.lend-requires
 lend-requires g c =
-    (each_first (into_iter_items c.loop.rest) (into_iter_items c.next.new.self) c.in-Some.chain (λ x. x.seat.me.0) IsAlone c.in-Some.ensures.cases.0 c.loop.invariant.alone).0
+    (each_head IsAlone (λ x. x.seat.me.0) (into_iter_items c.loop.rest) (into_iter_items c.next.new.self) c.in-Some.chain c.in-Some.ensures.cases.0 c.loop.invariant.alone).0
 
 pub loop-preserved : goal.loop-preserved
 loop-preserved g c =
@@ -31,7 +26,7 @@ loop-preserved g c =
     let e = c.lend.ensures in record {
       left = let shorter = c.in-Some.ensures.cases.1 in let was = i.left in omega arith;
       room = let len = c.push_reserved.ensures.len in let same = c.push_reserved.ensures.capacity in let was = i.room in (omega arith, omega arith);
-      alone = (each_first left rest chain (λ x. x.seat.me.0) IsAlone first i.alone).1;
+      alone = (each_head IsAlone (λ x. x.seat.me.0) left rest chain first i.alone).1;
       lents = rw c.push_reserved.ensures.items
           (lent_one left rest chain c.loop.lents.items lent (lengths_of (rights_of (map (λ x. x.seat.me.0) all))) (λ x. x.seat.me.0) (λ t. (t.number, t.linked))
           first (paired _ _ (e.lent.0 ∙ sym chain.owns.2) e.lent.1) i.lents);
@@ -42,17 +37,12 @@ loop-preserved g c =
       same = (e.chains.1 ∙ i.same.0, e.chains.2 ∙ i.same.1);
     }
 
-pub returns-clause-lents : goal.returns-clause-lents
-returns-clause-lents g c =
-    let left = into_iter_items c.loop.rest in let i = c.loop.invariant in let none : left ≡ [] = nil_from_length left (omega (arith, c.loop.rest.rest.ok, i.left)) in
-    all_done left (map (λ t. (t.number, t.linked)) c.loop.lents.items) (lengths_of (rights_of (map (λ x. x.seat.me.0) c.args.chains.items))) (λ l. lengths_of (rights_of (map (λ x. x.seat.me.0) l))) none refl i.lents
-
-pub returns-clause-chains : goal.returns-clause-chains
-returns-clause-chains g c =
-    let left = into_iter_items c.loop.rest in let i = c.loop.invariant in let none : left ≡ [] = nil_from_length left (omega (arith, c.loop.rest.rest.ok, i.left)) in
-    all_done left c.loop.to.seat.me.0.chains (c.args.to.now.seat.me.0.chains ++ rights_of (map (λ x. x.seat.me.0) c.args.chains.items)) (λ l. rights_of (map (λ x. x.seat.me.0) l)) none refl i.chains
-
-pub returns-clause-later : goal.returns-clause-later
-returns-clause-later g c =
-    let left = into_iter_items c.loop.rest in let i = c.loop.invariant in let none : left ≡ [] = nil_from_length left (omega (arith, c.loop.rest.rest.ok, i.left)) in
-    (i.later, all_reached left c.args.chains.items c.loop.to.seat.me.0.seen (λ x. x.seat.me.0) none i.reaches)
+pub returns : goal.returns
+returns g c =
+    let left = into_iter_items c.loop.rest in let i = c.loop.invariant in let all = c.args.chains.items in let none : left ≡ [] = nil_from_length left (omega (arith, c.loop.rest.rest.ok, i.left)) in record {
+      lents = all_done left (map (λ t. (t.number, t.linked)) c.loop.lents.items) (lengths_of (rights_of (map (λ x. x.seat.me.0) all))) (λ l. lengths_of (rights_of (map (λ x. x.seat.me.0) l))) none refl i.lents;
+      chains = all_done left c.loop.to.seat.me.0.chains (c.args.to.now.seat.me.0.chains ++ rights_of (map (λ x. x.seat.me.0) all)) (λ l. rights_of (map (λ x. x.seat.me.0) l)) none refl i.chains;
+      known = i.known;
+      later = (i.later, all_reached left all c.loop.to.seat.me.0.seen (λ x. x.seat.me.0) none i.reaches);
+      same = i.same;
+    }

@@ -1,10 +1,4 @@
-use Rattle.std.proofs.Common.{◌≡◌, ◌≤◌, ◌++◌, map, vec_capacity, vec_len, ◌+◌}
-use Rattle.std.specs.Vec.Iter.{into_iter_items, into_iter_len}
-use Rattle.live_log.specs.Log.{Begins, IsLiveRun}
-use Rattle.live_log.specs.Tables.{tabled}
-use Rattle.rcu_list.specs.live_table.Rights.{AreAsKnown}
-use Rattle.rcu_hash.specs.Writers.{Each, IsAlone, lengths_of, rights_of}
-use Rattle.rcu_hash.proofs.Lending.{Reaches}
+use Rattle.rcu_hash.proofs.Cited.{Begins, IsLiveRun, tabled, Each, IsAlone, lengths_of, rights_of, AreAsKnown, ◌≡◌, ◌+◌, ◌≤◌, ◌++◌, map, vec_len, vec_capacity, into_iter_items, into_iter_len, Reaches}
 use Rattle.rcu_hash.proofs.rights.lend_all.Given as goal
 
 abbrev pub invariant-loop : goal.invariant-loop

@@ -1,12 +1,4 @@
-use Rattle.std.proofs.Common.{◌≡◌, ◌∷◌, List, [], drop, length, take, refl, sym, ap, ◌∙◌, subst, arith, ℕ}
-use Rattle.std.proofs.lemmas.List.{nil_from_length}
-use Rattle.std.specs.Vec.Iter.{into_iter_items}
-use Rattle.live_log.specs.Log.{Log, Begins}
-use Rattle.rcu_list.specs.live_rule.Seats.{lent_chains}
-use Rattle.rcu_list.specs.live_rule.declared.rights.ChainRight.{ChainRight}
-use Rattle.rcu_list.specs.live_table.Rights.{own_in}
-use Rattle.rcu_hash.specs.Writers.{HasSeen, IsAlone, IsRunIn}
-use Rattle.rcu_hash.proofs.Lending.{all_done, dropped_one, each_pushed, first_lent, right_back}
+use Rattle.rcu_hash.proofs.Cited.{Log, Begins, HasSeen, IsAlone, IsRunIn, lent_chains, ChainRight, own_in, ◌≡◌, ℕ, [], ◌∷◌, ◌∙◌, List, length, refl, sym, ap, subst, arith, take, drop, nil_from_length, into_iter_items, each_pushed, all_done, first_lent, dropped_one, right_back}
 use Rattle.rcu_hash.proofs.rights.take_all_back.Goals as goal
 
 pub loop-init : goal.loop-init
@@ -44,20 +36,19 @@ loop-preserved g c =
       chains = rw (more, now) (right_back left rest lent c.loop.chains.items chain rights (take (length c.args.lents.items) (lent_chains old.chains)) (λ x. x.seat.me.0) first f.0 e.chain.0 i.chains);
       others = rw now (sym (dropped_one left rest lent rights first f.0) ∙ i.others);
       own = ap own_in e.from.0 ∙ i.own;
-      alone = rw more (each_pushed c.loop.chains.items chain (λ x. x.seat.me.0) IsAlone i.alone (ap lent_chains e.chain.0));
-      seen = rw more (each_pushed c.loop.chains.items chain (λ x. x.seat.me.0) (HasSeen old.seen) i.seen (subst (λ (l : Log). Begins l chain.seat.me.0.seen) i.same.0 e.later.0));
-      runs = rw more (each_pushed c.loop.chains.items chain (λ x. x.seat.me.0) (IsRunIn g.P.GracePlan.QSBR) i.runs e.later.1);
+      alone = each_pushed c.loop.chains.items c.push_reserved.new.self.items chain (λ x. x.seat.me.0) IsAlone more i.alone (ap lent_chains e.chain.0);
+      seen = each_pushed c.loop.chains.items c.push_reserved.new.self.items chain (λ x. x.seat.me.0) (HasSeen old.seen) more i.seen (subst (λ (l : Log). Begins l chain.seat.me.0.seen) i.same.0 e.later.0);
+      runs = each_pushed c.loop.chains.items c.push_reserved.new.self.items chain (λ x. x.seat.me.0) (IsRunIn g.P.GracePlan.QSBR) more i.runs e.later.1;
       same = (e.from.1 ∙ i.same.0, e.from.2 ∙ i.same.1, e.from.3 ∙ i.same.2);
     }
 
-pub returns-clause-chains : goal.returns-clause-chains
-returns-clause-chains g c =
+pub returns : goal.returns
+returns g c =
     let left = into_iter_items c.loop.rest in let i = c.loop.invariant in let none : left ≡ [] = nil_from_length left (omega (arith, c.loop.rest.rest.ok, i.left)) in
-    all_done left _ (take (length c.args.lents.items) (lent_chains c.args.from.now.seat.me.0.chains)) (λ l. take (length l) (lent_chains c.loop.from.seat.me.0.chains)) none refl i.chains
-
-pub returns-clause-from : goal.returns-clause-from
-returns-clause-from g c =
-    let left = into_iter_items c.loop.rest in let i = c.loop.invariant in let none : left ≡ [] = nil_from_length left (omega (arith, c.loop.rest.rest.ok, i.left)) in
-    let now = c.loop.from.seat.me.0.chains in let old = c.args.from.now.seat.me.0.chains in
-    let others : lent_chains now ≡ drop (length c.args.lents.items) (lent_chains old) = rw none at i.others in
-    (c.loop.from.owns.0 ∙ ap (λ (x : ChainRight). x ∷ lent_chains now) i.own ∙ ap (λ (l : List ChainRight). own_in old ∷ l) others, i.same.0)
+    let now = c.loop.from.seat.me.0.chains in let old = c.args.from.now.seat.me.0.chains in let others : lent_chains now ≡ drop (length c.args.lents.items) (lent_chains old) = rw none at i.others in record {
+      chains = all_done left _ (take (length c.args.lents.items) (lent_chains old)) (λ l. take (length l) (lent_chains now)) none refl i.chains;
+      alone = (i.alone, i.seen);
+      runs = i.runs;
+      from = (c.loop.from.owns.0 ∙ ap (λ (x : ChainRight). x ∷ lent_chains now) i.own ∙ ap (λ (l : List ChainRight). own_in old ∷ l) others, i.same.0);
+      same = (i.same.1, i.same.2);
+    }

@@ -1,8 +1,4 @@
-use Rattle.std.proofs.Common.{◌≡◌, ◌≤◌, ◌+◌, ◌++◌, drop, length, map, take, vec_capacity, vec_len}
-use Rattle.std.specs.Vec.Iter.{into_iter_items, into_iter_len}
-use Rattle.rcu_list.specs.live_rule.Seats.{lent_chains}
-use Rattle.rcu_list.specs.live_table.Rights.{own_in}
-use Rattle.rcu_hash.specs.Writers.{Each, HasSeen, IsAlone, IsRunIn, lengths_of, rights_of}
+use Rattle.rcu_hash.proofs.Cited.{Each, HasSeen, IsAlone, IsRunIn, lengths_of, rights_of, lent_chains, own_in, ◌≡◌, ◌+◌, ◌≤◌, ◌++◌, length, map, take, drop, vec_len, vec_capacity, into_iter_items, into_iter_len}
 use Rattle.rcu_hash.proofs.rights.take_all_back.Given as goal
 
 abbrev pub invariant-loop : goal.invariant-loop

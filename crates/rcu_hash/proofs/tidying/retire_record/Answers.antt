@@ -1,36 +1,23 @@
-use Rattle.std.proofs.Common.{rules, ◌≡◌, ℕ, Option, Some, IfSome, option_map, ◌++◌, ◌%◌, ◌∷◌, [], ap, sym, ◌∙◌, subst, refl, inl, inr}
-use Rattle.rcu_model.specs.declared.event.ObjectId.{ObjectId}
-use Rattle.rcu_model.proofs.Lemmas.{some_is}
-use Rattle.live_log.specs.declared.event.LiveEvent.TheVariants.{Object}
-use Rattle.live_log.specs.declared.event.ObjectEvent.TheVariants.{Retire}
-use Rattle.live_log.specs.Log.{Log, Begins, Has}
-use Rattle.live_log.specs.Tables.{tabled}
-use Rattle.rcu_list.specs.live_table.Rights.{object_in}
-use Rattle.rcu_list.specs.live_write.declared.records.Unlinked.{Unlinked}
-use Rattle.rcu_list.specs.live_items.Retiring.{IsAfterAll, Queues}
-use Rattle.rcu_hash.specs.Tidying.{IsRecord, Retires, Uses, WasReplaced}
-use Rattle.rcu_hash.proofs.Emptying.{queued_later, refused_finds, replaced_later, stays_none, uses_none, uses_one}
-use Rattle.rcu_list.proofs.live_read.Lemmas.{none_made}
-use Rattle.rcu_hash.proofs.Tidied.{retired_by}
+use Rattle.rcu_hash.proofs.Cited.{Log, Begins, Has, tabled, Object, Retire, IsStopped, Retires, Uses, WasReplaced, IsRecord, none_made, Queues, IsAfterAll, object_in, Unlinked, some_is, ObjectId, ◌≡◌, ℕ, [], ◌∷◌, ◌∙◌, ◌%◌, ◌++◌, refl, sym, ap, subst, inl, inr, Option, Some, option_map, IfSome, rules, replaced_later, refused_why, refused_finds, stays_none, queued_later, uses_none, uses_one, retired_by}
 use Rattle.rcu_hash.proofs.tidying.retire_record.Goals as goal
 
 pub returns-in_default-clause-uses : goal.returns-in_default-clause-uses
 returns-in_default-clause-uses g c d its =
     let w = g.W.Caller in let w0 = c.args.caller.now in
-    uses_none g.P.GracePlan.QSBR tabled g.B.Site.sizes d (w.seen w0) w g.row.D.coded.code w0 w0 c.args.jobs.now.items (w.heard w0) (w.heard w0) (stays_none w w0) ([], refl)
+    uses_none g.P.GracePlan.QSBR tabled g.B.Site.sizes d (w.seen w0) w g.row.D.coded.code w0 w0 c.args.jobs.now.items (w.heard w0) (w.heard w0) (stays_none w w0) ([], refl) ([], refl)
 
 pub returns-in_default-pop-clause-uses : goal.returns-in_default-pop-clause-uses
 returns-in_default-pop-clause-uses g c d its =
     let w = g.W.Caller in let w0 = c.args.caller.now in let jobs = c.args.jobs.now.items in let same : jobs ≡ c.pop.new.self.items = search rules in
     subst (λ js. Uses g.P.GracePlan.QSBR tabled g.B.Site.sizes d (w.seen w0) w g.row.D.coded.code w0 w0 jobs js (w.heard w0) (w.heard w0)) same
-    (uses_none g.P.GracePlan.QSBR tabled g.B.Site.sizes d (w.seen w0) w g.row.D.coded.code w0 w0 jobs (w.heard w0) (w.heard w0) (stays_none w w0) ([], refl))
+    (uses_none g.P.GracePlan.QSBR tabled g.B.Site.sizes d (w.seen w0) w g.row.D.coded.code w0 w0 jobs (w.heard w0) (w.heard w0) (stays_none w w0) ([], refl) ([], refl))
 
 pub returns-in-Ok-clause-uses : goal.returns-in-Ok-clause-uses
 returns-in-Ok-clause-uses g c d its =
     let w = g.W.Caller in let w0 = c.args.caller.now in let w2 = c.retire.new.caller in let u = c.in-Some.unlinked in let r = c.in-Ok.ensures.queued in let k = r.2 in
     let is : c.args.replaced.now ≡ Some u = search rules in
     let mine : IsRecord d u.chain u.seat.me.0 = subst (λ (x : Option (Unlinked g.row.B.Denot g.B.Site)). IfSome x (λ z. IsRecord d z.chain z.seat.me.0)) is its in
-    uses_one g.P.GracePlan.QSBR tabled g.B.Site.sizes d (w.seen w0) w g.row.D.coded.code w0 w2 c.args.jobs.now.items c.pop.new.self.items c.in-Some-pop.job (w.heard w0) (w.heard w2) (Retires (g.row.D.coded.code c.in-Some-pop.job)) refl (none_made w w0 w2 c.in-Ok.ensures.same.0.0) c.in-Some-pop.ensures.items (record {
+    uses_one g.P.GracePlan.QSBR tabled g.B.Site.sizes d (w.seen w0) w g.row.D.coded.code w0 w2 c.args.jobs.now.items c.pop.new.self.items c.in-Some-pop.job (w.heard w0) (w.heard w2) (Retires (g.row.D.coded.code c.in-Some-pop.job)) refl refl (none_made w w0 w2 c.in-Ok.ensures.same.0.0) ([], c.in-Ok.ensures.same.0.1) c.in-Some-pop.ensures.items (record {
       object = object_in u.seat.me.0.object;
       given = r.0;
       queued = subst (λ (x : ℕ). Queues g.P.GracePlan.QSBR tabled (λ (at : Log). Begins (w.seen w0) at × Begins (w.heard w0) at × WasReplaced d (object_in u.seat.me.0.object) at) (object_in u.seat.me.0.object) (x % g.B.Site.sizes.queues) r.0 (g.row.D.coded.code c.in-Some-pop.job) (w.heard w2)) mine.0 (record {
@@ -51,21 +38,6 @@ returns-in-Ok-clause-heard g c =
     let w = g.W.Caller in let w0 = c.args.caller.now in let w2 = c.retire.new.caller in let u = c.in-Some.unlinked in let r = c.in-Ok.ensures.queued in
     queued_later g.P.GracePlan.QSBR tabled (IsAfterAll u.seat.me.0.seen (w.seen w0) (w.heard w0)) (object_in u.seat.me.0.object) (u.chain % g.B.Site.sizes.queues) r.0 _ (w.heard w0) (w.heard w2) r.2 r.2.at.2
 
-pub returns-in-Err-clause-uses : goal.returns-in-Err-clause-uses
-returns-in-Err-clause-uses g c d its =
-    let w = g.W.Caller in let w0 = c.args.caller.now in let w2 = c.retire.new.caller in let e = c.in-Err.ensures in
-    let jobs = c.args.jobs.now.items in let left = c.pop.new.self.items in
-    let back = c.push_reserved.ensures.items ∙ (ap (λ j. left ++ j ∷ []) e.back.1 ∙ sym c.in-Some-pop.ensures.items) in
-    subst (λ js. Uses g.P.GracePlan.QSBR tabled g.B.Site.sizes d (w.seen w0) w g.row.D.coded.code w0 w2 jobs js (w.heard w0) (w.heard w2)) (sym back)
-    (uses_none g.P.GracePlan.QSBR tabled g.B.Site.sizes d (w.seen w0) w g.row.D.coded.code w0 w2 jobs (w.heard w0) (w.heard w2) e.refused.same.0 e.refused.after.after_heard)
-
-pub returns-in-Err-clause-same : goal.returns-in-Err-clause-same
-returns-in-Err-clause-same g c =
-    refused_finds g.W.Caller g.P.GracePlan.QSBR tabled g.B.Site.sizes (c.in-Some.unlinked.chain % g.B.Site.sizes.queues) c.args.caller.now c.retire.new.caller c.in-Err.refusal c.in-Err.ensures.refused
-
-pub returns-in-Err-clause-changes : goal.returns-in-Err-clause-changes
-returns-in-Err-clause-changes g c = c.in-Err.ensures.refused.same.0
-
 pub returns-in_default-clause-told : goal.returns-in_default-clause-told
 returns-in_default-clause-told g c o is = let same : c.args.replaced.now ≡ c.take.new.self = search rules in
     inr (subst (λ r. option_map (λ u. object_in u.seat.me.0.object) r ≡ Some o) same is)
@@ -81,7 +53,23 @@ returns-in-Ok-clause-told g c o is =
     inl (subst (λ (p : ObjectId). Has (Object (Retire p)) w2) (some_is (object_in u.seat.me.0.object) o one)
     (retired_by g.P.GracePlan.QSBR tabled (IsAfterAll u.seat.me.0.seen (g.W.Caller.seen c.args.caller.now) (g.W.Caller.heard c.args.caller.now)) (object_in u.seat.me.0.object) (u.chain % g.B.Site.sizes.queues) r.0 _ w2 r.2))
 
-pub returns-in-Err-clause-told : goal.returns-in-Err-clause-told
-returns-in-Err-clause-told g c o is = let same : c.args.replaced.now ≡ Some c.in-Some.unlinked = search rules in
-    let back = c.in-Err.ensures.back.0 in
-    inr (ap (λ u. Some (object_in u.seat.me.0.object)) back ∙ subst (λ r. option_map (λ u. object_in u.seat.me.0.object) r ≡ Some o) same is)
+pub returns-in-Err : goal.returns-in-Err
+returns-in-Err g c =
+    let q = g.P.GracePlan.QSBR in let w = g.W.Caller in let sizes = g.B.Site.sizes in let code = g.row.D.coded.code in let w0 = c.args.caller.now in let w2 = c.retire.new.caller in let e = c.in-Err.ensures in let u = c.in-Some.unlinked in
+    let jobs = c.args.jobs.now.items in let left = c.pop.new.self.items in let is : c.args.replaced.now ≡ Some u = search rules in
+    let back = c.push_reserved.ensures.items ∙ (ap (λ j. left ++ j ∷ []) e.back.1 ∙ sym c.in-Some-pop.ensures.items) in record {
+      uses = λ d its. subst (λ js. Uses q tabled sizes d (w.seen w0) w code w0 w2 jobs js (w.heard w0) (w.heard w2)) (sym back)
+          (uses_none q tabled sizes d (w.seen w0) w code w0 w2 jobs (w.heard w0) (w.heard w2) e.refused.same.0 (_ ∷ [], e.refused.looked) e.refused.after.after_heard);
+      retired = tt;
+      told = λ o one. inr (ap (λ x. Some (object_in x.seat.me.0.object)) e.back.0 ∙ subst (λ r. option_map (λ x. object_in x.seat.me.0.object) r ≡ Some o) is one);
+      kept = inr (ap Some e.back.0 ∙ sym is);
+      stopped = (
+        refl,
+        λ d its.
+            let mine = subst (λ (x : Option (Unlinked g.row.B.Denot g.B.Site)). IfSome x (λ z. IsRecord d z.chain z.seat.me.0)) is its in
+            subst (λ (n : ℕ). IsStopped w w2 (λ k. k ≡ n % sizes.queues) c.push_reserved.new.self.items c.in-Err.refusal) mine.0 (inr (refused_why w q tabled sizes (u.chain % sizes.queues) w0 w2 c.in-Err.refusal e.refused)),
+      );
+      heard = e.refused.after.after_heard;
+      changes = e.refused.same.0;
+      same = refused_finds w q tabled sizes (u.chain % sizes.queues) w0 w2 c.in-Err.refusal e.refused;
+    }

@@ -1,9 +1,4 @@
-use Rattle.std.proofs.Common.{◌≡◌, ◌<◌, ℕ, ◌+◌, List, Some, slice_get, slice_index_or, ⊎_elim, arith, ap, sym, ◌∙◌, subst}
-use Rattle.rcu_model.specs.declared.event.ObjectId.{ObjectId}
-use Rattle.rcu_model.specs.Sets.{In}
-use Rattle.live_log.specs.Keys.{Falls, rank_of}
-use Rattle.live_log.specs.Log.{Log, record_of}
-use Rattle.domain.specs.live_write.Chains.{list_in}
+use Rattle.rcu_list.proofs.Cited.{◌≡◌, ◌<◌, ℕ, ◌+◌, List, Some, slice_get, slice_index_or, ⊎_elim, arith, ap, sym, ◌∙◌, subst, ObjectId, In, Falls, rank_of, Log, record_of, list_in}
 use Rattle.rcu_list.specs.Maps.{next_rank}
 use Rattle.rcu_list.proofs.Values.{first_above, first_at, rank_first, rank_none}
 use Rattle.rcu_list.proofs.Writing.{chain_known, same_own}

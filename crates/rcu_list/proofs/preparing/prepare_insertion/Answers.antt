@@ -1,10 +1,5 @@
-use Rattle.std.proofs.Common.{◌≡◌, ℕ, Option, Some, None, true, false, IfNone, IfSome, is_some, inl, inr, refl, ap, sym, ◌∙◌, subst}
-use Rattle.rcu_model.specs.Sets.{In}
-use Rattle.live_log.specs.Keys.{key_of}
-use Rattle.live_log.specs.Log.{Log, record_of}
-use Rattle.domain.specs.live_rule.declared.rights.ChainRight.{ChainRight}
-use Rattle.domain.specs.live_write.Chains.{list_in}
-use Rattle.domain.proofs.live_write.Lemmas.{went_both}
+use Rattle.rcu_list.proofs.Cited.{◌≡◌, ℕ, Option, Some, None, true, false, is_some, inl, inr, refl, ap, sym, ◌∙◌, subst, In, key_of, Log, record_of, ChainRight, list_in, went_both}
+use Rattle.std.proofs.Common.{IfNone, IfSome}
 use Rattle.rcu_list.specs.Maps.{HasLastRank}
 use Rattle.rcu_list.proofs.Writing.{found_there, if_err, if_ok, last_rank, note_walked, same_own, walked_missing}
 use Rattle.rcu_list.proofs.preparing.prepare_insertion.Goals as goal

@@ -1,12 +1,4 @@
-use Rattle.std.proofs.Common.{◌≡◌, ◌≤◌, ℕ, List, ◌∷◌, length, slice_get, slice_index_or, inl, inr, refl, ap, sym, ◌∙◌, subst, arith}
-use Rattle.std.proofs.lemmas.Option.{slice_get_within}
-use Rattle.rcu_model.specs.declared.event.ObjectId.{ObjectId}
-use Rattle.rcu_model.proofs.Lemmas.{some_is}
-use Rattle.live_log.specs.Keys.{rank_of}
-use Rattle.live_log.specs.Log.{Log, record_of}
-use Rattle.domain.specs.live_rule.declared.rights.ChainRight.{ChainRight}
-use Rattle.domain.specs.live_write.Chains.{list_in}
-use Rattle.domain.proofs.live_write.Lemmas.{index_has, went_both}
+use Rattle.rcu_list.proofs.Cited.{◌≡◌, ◌≤◌, ℕ, List, ◌∷◌, length, slice_get, slice_index_or, inl, inr, refl, ap, sym, ◌∙◌, subst, arith, slice_get_within, ObjectId, some_is, rank_of, Log, record_of, ChainRight, list_in, index_has, went_both}
 use Rattle.rcu_list.proofs.Writing.{found_there, note_walked, same_own, walked_missing}
 use Rattle.rcu_list.proofs.preparing.prepare_replacement.Goals as goal
 

@@ -1,6 +1,4 @@
-use Rattle.std.proofs.Common.{◌++◌, sym, ap, subst}
-use Rattle.judging.specs.declared.text_judge.TextJudge.{TextJudge}
-use Rattle.judging.specs.Found.{WasFed}
+use Rattle.robiniagolf.proofs.Cited.{◌++◌, sym, ap, subst, TextJudge, WasFed}
 use Rattle.robiniagolf.specs.Verdicts.{answer_by}
 use Rattle.robiniagolf.proofs.Handles.{kept_was_fed, keeps_fed, none_was_fed, told_answer}
 use Rattle.robiniagolf.proofs.exports.robiniagolf_judge_feed.Goals as goal

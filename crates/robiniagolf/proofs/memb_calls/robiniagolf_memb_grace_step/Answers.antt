@@ -1,6 +1,5 @@
-use Rattle.std.proofs.Common.{◌<◌, ◌∙◌, Option, Some, ap, sym, subst}
-use Rattle.std.specs.Arc.{arc_value}
-use Rattle.held_values.specs.declared.MembGrace.{MembGrace}
+use Rattle.robiniagolf.proofs.Cited.{◌<◌, ◌∙◌, Option, ap, sym, subst, arc_value, MembGrace}
+use Rattle.std.proofs.Common.{Some}
 use Rattle.robiniagolf.specs.Calls.{Between, MembIsHeldUp}
 use Rattle.robiniagolf.proofs.memb_calls.robiniagolf_memb_grace_step.Goals as goal
 

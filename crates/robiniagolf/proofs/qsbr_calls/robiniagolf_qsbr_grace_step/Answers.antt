@@ -1,6 +1,5 @@
-use Rattle.std.proofs.Common.{◌<◌, ◌∙◌, Option, Some, ap, sym, subst}
-use Rattle.std.specs.Arc.{arc_value}
-use Rattle.held_values.specs.declared.QsbrGrace.{QsbrGrace}
+use Rattle.robiniagolf.proofs.Cited.{◌<◌, ◌∙◌, Option, ap, sym, subst, arc_value, QsbrGrace}
+use Rattle.std.proofs.Common.{Some}
 use Rattle.robiniagolf.specs.Calls.{Between, QsbrIsHeldUp}
 use Rattle.robiniagolf.proofs.qsbr_calls.robiniagolf_qsbr_grace_step.Goals as goal
 

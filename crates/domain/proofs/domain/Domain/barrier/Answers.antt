@@ -1,8 +1,5 @@
-use Rattle.std.proofs.Common.{◌≡◌, ◌++◌, ◌∙◌, [], List, ap, append_assoc, sym}
-use Rattle.live_log.specs.Log.{Log}
-use Rattle.live_log.proofs.Lemmas.{begins_trans}
+use Rattle.domain.proofs.Cited.{◌≡◌, ◌++◌, ◌∙◌, [], List, ap, append_assoc, sym, Log, begins_trans, Look}
 use Rattle.domain.proofs.domain.Domain.barrier.Goals as goal
-use Rattle.live_words.specs.live_rule.declared.view.Look.{Look}
 
 -- what was looked at since then, after one more look
 one_more : (since first start mid end since' : List Look) → mid ≡ since ++ (first ++ start) → end ≡ since' ++ mid → end ≡ (since' ++ since) ++ (first ++ start)

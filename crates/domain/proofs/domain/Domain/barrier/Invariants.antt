@@ -1,9 +1,5 @@
-use Rattle.std.proofs.Common.{◌≡◌, ◌++◌, List}
-use Rattle.live_log.specs.Log.{Begins}
-use Rattle.live_barrier.specs.Barrier.{AreNoted}
-use Rattle.live_read.specs.Hearing.{IsAfter, Stays}
+use Rattle.domain.proofs.Cited.{◌≡◌, ◌++◌, List, Begins, AreNoted, IsAfter, Stays, Look}
 use Rattle.domain.proofs.domain.Domain.barrier.Given as goal
-use Rattle.live_words.specs.live_rule.declared.view.Look.{Look}
 
 abbrev pub invariant-loop : goal.invariant-loop
 invariant-loop g l = Stays g.W.Caller l.fn.caller l.caller × (g.W.Caller.loads l.caller ≡ g.W.Caller.loads l.fn.caller) × Begins l.mark.asked.value.me.0.seen (g.W.Caller.heard l.caller)

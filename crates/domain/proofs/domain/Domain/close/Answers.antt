@@ -1,7 +1,4 @@
-use Rattle.std.proofs.Common.{◌≡◌, ◌∙◌, ℕ, ap, inr}
-use Rattle.live_log.specs.Log.{Log}
-use Rattle.live_words.specs.live_rule.declared.view.View.{View}
-use Rattle.live_items.specs.Items.{Jobs}
+use Rattle.domain.proofs.Cited.{◌≡◌, ◌∙◌, ℕ, ap, inr, Log, View, Jobs}
 use Rattle.domain.proofs.Closing.{all_closed, is_after}
 use Rattle.domain.proofs.domain.Domain.close.Goals as goal
 

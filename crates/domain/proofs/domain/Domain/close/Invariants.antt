@@ -1,6 +1,4 @@
-use Rattle.std.proofs.Common.{◌≡◌, ◌⊎◌, ◌<◌, ℕ}
-use Rattle.live_log.specs.Log.{closed_of}
-use Rattle.live_read.specs.Hearing.{IsAfter, OnlyHears}
+use Rattle.domain.proofs.Cited.{◌≡◌, ◌⊎◌, ◌<◌, ℕ, closed_of, IsAfter, OnlyHears}
 use Rattle.domain.proofs.domain.Domain.close.Given as goal
 
 abbrev pub invariant-loop-number : goal.invariant-loop-number

@@ -1,12 +1,4 @@
-use Rattle.std.proofs.Common.{rules, ◌≡◌, ℕ, List, ◌∷◌, ◌++◌, length, refl, ap, ◌∙◌}
-use Rattle.rcu_model.specs.declared.event.ObjectId.{ObjectId}
-use Rattle.live_log.specs.Log.{Log, Begins}
-use Rattle.live_log.proofs.Lemmas.{begins_trans, closed_stays}
-use Rattle.live_words.specs.live_rule.declared.view.Look.{Look}
-use Rattle.live_words.specs.live_rule.declared.view.Look.TheVariants.{Loaded, Stored}
-use Rattle.live_words.specs.live_rule.declared.view.Sizes.{Sizes}
-use Rattle.live_words.specs.live_rule.declared.view.View.{View}
-use Rattle.live_words.specs.live_rule.Places.{finished_at, work_at}
+use Rattle.domain.proofs.Cited.{rules, ◌≡◌, ℕ, List, ◌∷◌, ◌++◌, length, refl, ap, ◌∙◌, ObjectId, Log, Begins, begins_trans, closed_stays, Look, Loaded, Stored, Sizes, View, finished_at, work_at}
 use Rattle.domain.specs.Working.{Looks, left_by}
 use Rattle.domain.proofs.Running.{list_later, more_known, order_later, ran_through}
 use Rattle.domain.proofs.domain.Domain.employ.Goals as goal

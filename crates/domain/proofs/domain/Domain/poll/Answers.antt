@@ -1,5 +1,4 @@
-use Rattle.std.proofs.Common.{subst}
-use Rattle.live_log.specs.Log.{Log, Begins}
+use Rattle.domain.proofs.Cited.{subst, Log, Begins}
 use Rattle.domain.proofs.domain.Domain.poll.Goals as goal
 
 pub returns-clause-later : goal.returns-clause-later

@@ -1,8 +1,5 @@
-use Rattle.std.proofs.Common.{rules, ◌+◌, List, [], length, refl, reverse, subst, sym, ap, ◌∙◌, arith}
+use Rattle.domain.proofs.Cited.{rules, ◌+◌, List, [], length, refl, reverse, subst, sym, ap, ◌∙◌, arith, Finished, Log, AreRunAs}
 use Rattle.std.proofs.lemmas.List.{length-append}
-use Rattle.call_rcu_worker.specs.declared.finished.Finished.{Finished}
-use Rattle.live_log.specs.Log.{Log}
-use Rattle.live_reclaim.specs.Batches.{AreRunAs}
 use Rattle.domain.specs.Working.{GoesOn}
 use Rattle.domain.proofs.Running.{all_and, all_later, due_later, goes_same, goes_trans, order_later, order_popped}
 use Rattle.domain.proofs.domain.Domain.run_all.Goals as goal

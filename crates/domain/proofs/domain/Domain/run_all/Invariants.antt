@@ -1,6 +1,4 @@
-use Rattle.std.proofs.Common.{◌≡◌, ◌+◌, ◌-◌, ◌≤◌, reverse, vec_len, vec_capacity}
-use Rattle.live_items.specs.Items.{InOrder}
-use Rattle.live_reclaim.specs.Batches.{IsDue, Lists, WorksFor}
+use Rattle.domain.proofs.Cited.{◌≡◌, ◌+◌, ◌-◌, ◌≤◌, reverse, vec_len, vec_capacity, InOrder, IsDue, Lists, WorksFor}
 use Rattle.domain.specs.Working.{GoesOn}
 use Rattle.domain.proofs.domain.Domain.run_all.Given as goal
 

@@ -1,13 +1,4 @@
-use Rattle.std.proofs.Common.{rules, ◌<◌, ℕ, List, [], ◌∷◌, length, reverse, refl, sym, ap, ◌∙◌, subst, inl, arith}
-use Rattle.std.proofs.lemmas.List.{length-reverse, reverse-reverse}
-use Rattle.callback_queue.specs.declared.item.Item.{Item}
-use Rattle.live_log.specs.Log.{Log, Begins, line_of}
-use Rattle.live_log.proofs.Lemmas.{begins_trans}
-use Rattle.live_words.specs.live_rule.declared.view.Look.TheVariants.{Loaded}
-use Rattle.live_words.specs.live_rule.declared.view.View.{View}
-use Rattle.live_words.specs.live_rule.Places.{finished_at, queued_at}
-use Rattle.live_items.specs.Items.{InOrder, JobValue}
-use Rattle.live_reclaim.specs.Batches.{IsDue}
+use Rattle.domain.proofs.Cited.{rules, ◌<◌, ℕ, List, [], ◌∷◌, length, reverse, refl, sym, ap, ◌∙◌, subst, inl, arith, length-reverse, reverse-reverse, Item, Log, Begins, line_of, begins_trans, Loaded, View, finished_at, queued_at, InOrder, JobValue, IsDue}
 use Rattle.domain.specs.Working.{FoundUsedUp, Looks}
 use Rattle.domain.proofs.Running.{goes_counted, goes_trans, line_longer, list_later, order_later, used_up_since}
 use Rattle.domain.proofs.domain.Domain.run_batch.Goals as goal

@@ -1,8 +1,4 @@
-use Rattle.std.proofs.Common.{rules, ◌≡◌, ℕ, List, [], length, sym, ap, ◌∙◌, subst, arith}
-use Rattle.live_log.proofs.Lemmas.{begins_trans}
-use Rattle.live_words.specs.live_rule.declared.view.View.{View}
-use Rattle.live_words.specs.live_rule.Places.{queued_at}
-use Rattle.live_reclaim.specs.Batches.{Lists}
+use Rattle.domain.proofs.Cited.{rules, ◌≡◌, ℕ, List, [], length, sym, ap, ◌∙◌, subst, arith, begins_trans, View, queued_at, Lists}
 use Rattle.domain.specs.declared.working.Outcome.TheVariants as outcome
 use Rattle.domain.proofs.Running.{goes_looked_once, goes_trans, line_longer, rounds_at, rounds_looked, rounds_none, rounds_on, used_up_since}
 use Rattle.domain.proofs.domain.Domain.serve.Goals as goal

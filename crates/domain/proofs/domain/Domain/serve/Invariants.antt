@@ -1,6 +1,4 @@
-use Rattle.std.proofs.Common.{◌≡◌, ◌≤◌, [], length}
-use Rattle.live_log.specs.Log.{line_of}
-use Rattle.live_reclaim.specs.Batches.{Lists, WorksFor}
+use Rattle.domain.proofs.Cited.{◌≡◌, ◌≤◌, [], length, line_of, Lists, WorksFor}
 use Rattle.domain.specs.Working.{GoesOn, Rounds}
 use Rattle.domain.proofs.domain.Domain.serve.Given as goal
 

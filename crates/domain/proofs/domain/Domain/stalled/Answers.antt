@@ -1,8 +1,4 @@
-use Rattle.std.proofs.Common.{rules, ◌≡◌, List, ◌++◌, sym, ap, ◌∙◌, subst}
-use Rattle.live_log.specs.Log.{Log}
-use Rattle.live_words.specs.live_rule.declared.view.Sizes.{Sizes}
-use Rattle.live_words.specs.live_rule.declared.view.View.{View}
-use Rattle.live_status.specs.Status.{Looks, Stalls}
+use Rattle.domain.proofs.Cited.{rules, ◌≡◌, List, ◌++◌, sym, ap, ◌∙◌, subst, Log, Sizes, View, Looks, Stalls}
 use Rattle.domain.proofs.Stalls.{stalls_for}
 use Rattle.domain.proofs.domain.Domain.stalled.Goals as goal
 

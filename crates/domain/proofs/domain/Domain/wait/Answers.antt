@@ -1,5 +1,4 @@
-use Rattle.std.proofs.Common.{List, [], ◌∷◌, sym, refl, ap, ◌∙◌, subst}
-use Rattle.live_log.specs.Log.{Log, Begins, HaveEnded}
+use Rattle.domain.proofs.Cited.{List, [], ◌∷◌, sym, refl, ap, ◌∙◌, subst, Log, Begins, HaveEnded}
 use Rattle.domain.proofs.domain.Domain.wait.Goals as goal
 
 pub returns-clause-ended : goal.returns-clause-ended

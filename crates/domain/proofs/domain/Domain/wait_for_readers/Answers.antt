@@ -1,7 +1,4 @@
-use Rattle.std.proofs.Common.{rules, [], ◌∷◌, IfErr, sym, refl, ap, ◌∙◌, subst}
-use Rattle.std.specs.Prelude.{Result, Ok, Err}
-use Rattle.live_log.specs.Log.{Log, Begins, HaveEnded}
-use Rattle.live_words.specs.live_rule.declared.view.View.{View}
+use Rattle.domain.proofs.Cited.{rules, [], ◌∷◌, IfErr, sym, refl, ap, ◌∙◌, subst, Result, Ok, Err, Log, Begins, HaveEnded, View}
 use Rattle.domain.specs.Working.{GoesOn}
 use Rattle.domain.proofs.Running.{goes_loaded, goes_trans, line_longer}
 use Rattle.domain.proofs.domain.Domain.wait_for_readers.Goals as goal

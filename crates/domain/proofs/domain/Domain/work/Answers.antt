@@ -1,7 +1,4 @@
-use Rattle.std.proofs.Common.{rules, ◌≡◌, ℕ, List, [], length, refl, sym, ap, ◌∙◌, subst, arith}
-use Rattle.live_log.proofs.Lemmas.{begins_trans}
-use Rattle.live_words.specs.live_rule.declared.view.View.{View}
-use Rattle.live_reclaim.specs.Batches.{Lists}
+use Rattle.domain.proofs.Cited.{rules, ◌≡◌, ℕ, List, [], length, refl, sym, ap, ◌∙◌, subst, arith, begins_trans, View, Lists}
 use Rattle.domain.specs.declared.working.Outcome.TheVariants as outcome
 use Rattle.domain.proofs.Running.{goes_looked, goes_same, goes_trans, list_later, rounds_at, rounds_emptied, rounds_none, rounds_on, used_up_since}
 use Rattle.domain.proofs.domain.Domain.work.Goals as goal

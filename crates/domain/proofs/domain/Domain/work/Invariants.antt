@@ -1,5 +1,4 @@
-use Rattle.std.proofs.Common.{◌≡◌, []}
-use Rattle.live_reclaim.specs.Batches.{Lists, WorksFor}
+use Rattle.domain.proofs.Cited.{◌≡◌, [], Lists, WorksFor}
 use Rattle.domain.specs.Working.{GoesOn, Rounds}
 use Rattle.domain.proofs.domain.Domain.work.Given as goal
 

@@ -1,7 +1,4 @@
-use Rattle.std.proofs.Common.{List, ◌++◌, sym, ap, ◌∙◌, subst}
-use Rattle.std.proofs.lemmas.Result.{IfErr-weaker, IfOk-weaker}
-use Rattle.live_log.specs.Log.{Log, Begins, IsLiveRun}
-use Rattle.live_words.specs.live_rule.declared.view.View.{View}
+use Rattle.domain.proofs.Cited.{List, ◌++◌, sym, ap, ◌∙◌, subst, IfErr-weaker, IfOk-weaker, Log, Begins, IsLiveRun, View}
 use Rattle.domain.specs.Working.{HasWorked, Looks}
 use Rattle.domain.proofs.Running.{worked_for}
 use Rattle.domain.proofs.domain.Domain.work_as.Goals as goal

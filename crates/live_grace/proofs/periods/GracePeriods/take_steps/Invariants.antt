@@ -1,5 +1,4 @@
-use Rattle.std.proofs.Common.{◌≡◌, true}
-use Rattle.live_words.specs.live_table.Steps.{Keeps}
+use Rattle.live_grace.proofs.Cited.{◌≡◌, true, Keeps}
 use Rattle.live_grace.specs.Steps.{TookTurns}
 use Rattle.live_grace.proofs.periods.GracePeriods.take_steps.Given as goal
 

@@ -1,11 +1,5 @@
 -- A step of a grace period that is going.
-use Rattle.std.proofs.Common.{rules, ◌≡◌, ℕ, ◌+◌, ◌<◌, true, arith, sym, ◌∙◌, subst, true≢false}
-use Rattle.std.proofs.Math.Logic.{∥∥₁_elim, ∥∥₁_map}
-use Rattle.std.specs.Coded.{le_prop}
-use Rattle.reader_word.specs.declared.layout.Layout.TheVariants.{Wide}
-use Rattle.atomic_table.specs.Table.{Me}
-use Rattle.live_log.specs.declared.callback_id.CallbackId.{CallbackId}
-use Rattle.live_words.specs.live_rule.declared.view.View.{View}
+use Rattle.live_grace.proofs.Cited.{rules, ◌≡◌, ℕ, ◌+◌, ◌<◌, true, arith, sym, ◌∙◌, subst, true≢false, ∥∥₁_elim, ∥∥₁_map, le_prop, Wide, Me, CallbackId, View}
 use Rattle.live_grace.specs.declared.period.Progress.TheVariants.{Done}
 use Rattle.live_grace.specs.Going.{InLoop}
 use Rattle.live_grace.proofs.Answering.{bound_number, bound_phase, under_way_ended, under_way_on}

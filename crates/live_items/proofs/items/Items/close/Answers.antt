@@ -1,11 +1,4 @@
-use Rattle.std.proofs.Common.{ℕ, [], ◌∷◌, refl, sym, ap, ◌∙◌, subst}
-use Rattle.live_log.specs.declared.event.LiveEvent.TheVariants.{CloseQueue}
-use Rattle.live_log.specs.Log.{Log, Begins}
-use Rattle.live_log.proofs.Lemmas.{begins_trans}
-use Rattle.live_words.specs.live_rule.declared.view.View.{View}
-use Rattle.live_words.specs.live_rule.declared.rights.QueueRight.{QueueRight}
-use Rattle.live_words.specs.live_rule.declared.rights.QueueRight.TheVariants.{Owns}
-use Rattle.live_words.specs.live_table.Rights.{queue_in, queued_in}
+use Rattle.live_items.proofs.Cited.{ℕ, [], ◌∷◌, refl, sym, ap, ◌∙◌, subst, CloseQueue, Log, Begins, begins_trans, View, QueueRight, Owns, queue_in, queued_in}
 use Rattle.live_items.specs.Items.{Closes, Jobs, IsUnderLock}
 use Rattle.live_items.proofs.Orders.{under_closed}
 use Rattle.live_items.proofs.items.Items.close.Goals as goal

@@ -1,17 +1,4 @@
-use base.Stored.{Gv}
-use Rattle.std.proofs.Common.{◌≡◌, ℕ, ◌+◌, ◌∷◌, inl, refl, sym, ap, ◌∙◌, subst}
-use Rattle.rcu_model.specs.declared.event.ObjectId.{ObjectId}
-use Rattle.callback_queue.specs.declared.item.Item.{Item}
-use Rattle.callback_queue.specs.Queue.{given_of, pushed, with_place}
-use Rattle.live_log.specs.declared.event.LiveEvent.TheVariants.{Object}
-use Rattle.live_log.specs.declared.event.ObjectEvent.TheVariants.{Queue}
-use Rattle.live_log.specs.Log.{Log, Begins, Has, WasQueued}
-use Rattle.live_log.proofs.Lemmas.{begins_trans}
-use Rattle.live_words.specs.live_rule.declared.view.View.{View}
-use Rattle.live_words.specs.live_rule.declared.rights.QueueRight.TheVariants.{Owns}
-use Rattle.live_words.specs.live_rule.Steps.{Precedes}
-use Rattle.live_words.specs.live_table.Rights.{object_in}
-use Rattle.live_words.specs.live_queues.Queues.{IsLast}
+use Rattle.live_items.proofs.Cited.{Gv, ◌≡◌, ℕ, ◌+◌, ◌∷◌, inl, refl, sym, ap, ◌∙◌, subst, ObjectId, Item, given_of, pushed, with_place, Object, Queue, Log, Begins, Has, WasQueued, begins_trans, View, Owns, Precedes, object_in, IsLast}
 use Rattle.live_items.specs.Items.{JobValue, Jobs, IsUnderLock}
 use Rattle.live_items.specs.Retiring.{IsAfterAll, Queues}
 use Rattle.live_items.proofs.Orders.{under_place, under_pushed}

@@ -1,10 +1,4 @@
-use Rattle.std.proofs.Common.{rules, ◌≡◌, ℕ, List, ◌+◌, length, sym, ap, ◌∙◌, subst}
-use Rattle.callback_queue.specs.declared.item.Item.{Item}
-use Rattle.callback_queue.specs.Queue.{given_of}
-use Rattle.live_log.specs.Log.{Log, Begins}
-use Rattle.live_words.specs.live_rule.declared.view.Sizes.{Sizes}
-use Rattle.live_words.specs.live_rule.Places.{finished_at, queued_at}
-use Rattle.live_words.specs.live_table.Steps.{Went, looked_view}
+use Rattle.live_items.proofs.Cited.{rules, ◌≡◌, ℕ, List, ◌+◌, length, sym, ap, ◌∙◌, subst, Item, given_of, Log, Begins, Sizes, finished_at, queued_at, Went, looked_view}
 use Rattle.live_items.specs.Items.{IsBatch, IsUnderLock, JobValue}
 use Rattle.live_items.proofs.Counting.{finds_more, finds_none, takes}
 use Rattle.live_items.proofs.Orders.{batch_of}

@@ -1,11 +1,4 @@
-use Rattle.std.proofs.Common.{◌≡◌, ℕ, [], ◌∷◌, ◌++◌, refl, sym, ap, ◌∙◌, subst, List}
-use Rattle.rcu_model.specs.declared.event.ObjectId.{ObjectId}
-use Rattle.live_log.specs.declared.event.LiveEvent.TheVariants.{Object}
-use Rattle.live_log.specs.declared.event.ObjectEvent.TheVariants.{Run}
-use Rattle.live_log.specs.Log.{Log, Begins, payload_of, words_in}
-use Rattle.live_log.proofs.Lemmas.{begins_trans, note_stays}
-use Rattle.live_words.specs.live_rule.declared.view.View.{View}
-use Rattle.live_words.specs.live_table.Rights.{object_in}
+use Rattle.live_items.proofs.Cited.{◌≡◌, ℕ, [], ◌∷◌, ◌++◌, refl, sym, ap, ◌∙◌, subst, List, ObjectId, Object, Run, Log, Begins, payload_of, words_in, begins_trans, note_stays, View, object_in}
 use Rattle.live_items.specs.Items.{JobValue}
 use Rattle.live_items.specs.Running.{Runs}
 use Rattle.live_items.proofs.job.Job.run.Goals as goal

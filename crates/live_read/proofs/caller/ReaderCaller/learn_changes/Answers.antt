@@ -1,5 +1,4 @@
-use Rattle.std.proofs.Common.{refl, ap}
-use Rattle.live_words.specs.live_table.Rights.{count_in}
+use Rattle.live_read.proofs.Cited.{refl, ap, count_in}
 use Rattle.live_read.proofs.Staying.{stays_in}
 use Rattle.live_read.proofs.caller.ReaderCaller.learn_changes.Goals as goal
 

@@ -1,6 +1,4 @@
-use Rattle.std.proofs.Common.{◌≤◌, refl, subst}
-use Rattle.std.proofs.lemmas.Result.{IfErr-weaker}
-use Rattle.live_words.specs.live_rule.declared.view.Sizes.{Sizes}
+use Rattle.live_read.proofs.Cited.{◌≤◌, refl, subst, IfErr-weaker, Sizes}
 use Rattle.live_read.proofs.Naming.{same_reader}
 use Rattle.live_read.proofs.reader.Reader.first.Goals as goal
 

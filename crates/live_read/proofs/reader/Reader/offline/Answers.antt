@@ -1,5 +1,4 @@
-use Rattle.std.proofs.Common.{refl}
-use Rattle.std.proofs.lemmas.Result.{IfErr-weaker}
+use Rattle.live_read.proofs.Cited.{refl, IfErr-weaker}
 use Rattle.live_read.proofs.Naming.{same_reader}
 use Rattle.live_read.proofs.reader.Reader.offline.Goals as goal
 

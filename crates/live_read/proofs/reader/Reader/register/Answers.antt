@@ -1,7 +1,4 @@
-use Rattle.std.proofs.Common.{◌≡◌, List, [], ◌++◌, ◌∙◌, refl, ap, subst, append-nil}
-use Rattle.live_words.specs.live_rule.declared.view.Sizes.{Sizes}
-use Rattle.live_words.specs.live_rule.declared.view.Look.{Look}
-use Rattle.live_words.specs.live_rule.declared.view.View.{View}
+use Rattle.live_read.proofs.Cited.{◌≡◌, List, [], ◌++◌, ◌∙◌, refl, ap, subst, append-nil, Sizes, Look, View}
 use Rattle.live_read.specs.Registering.{AllWereClaimed}
 use Rattle.live_read.proofs.reader.Reader.register.Goals as goal
 

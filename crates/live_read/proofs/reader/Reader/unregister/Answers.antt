@@ -1,9 +1,4 @@
-use Rattle.std.proofs.Common.{Bool, subst}
-use Rattle.live_log.specs.declared.event.LiveEvent.TheVariants.{Close}
-use Rattle.live_log.proofs.Lemmas.{begins_trans}
-use Rattle.live_words.specs.live_rule.Readers.{IsClosed}
-use Rattle.live_words.proofs.live_rule.Lemmas.{has_more}
-use Rattle.live_words.specs.live_table.Rights.{count_in}
+use Rattle.live_read.proofs.Cited.{Bool, subst, Close, begins_trans, IsClosed, has_more, count_in}
 use Rattle.live_read.specs.Holding.{log_of}
 use Rattle.live_read.proofs.reader.Reader.unregister.Goals as goal
 

@@ -1,7 +1,4 @@
-use Rattle.std.proofs.Common.{rules, ◌≡◌, Ok, refl, arith}
-use Rattle.reader_word.specs.declared.layout.Layout.TheVariants.{Wide}
-use Rattle.reader_word.specs.Word.{count_of, left_of}
-use Rattle.reader_word.proofs.Lemmas.{left_of-nests}
+use Rattle.live_read.proofs.Cited.{rules, ◌≡◌, Ok, refl, arith, Wide, count_of, left_of, left_of-nests}
 use Rattle.live_read.proofs.Entering.{leaves}
 use Rattle.live_read.proofs.reader_core.ReaderCore.close_word.Goals as goal
 

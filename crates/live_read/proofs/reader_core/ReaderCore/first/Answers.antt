@@ -1,8 +1,4 @@
-use Rattle.std.proofs.Common.{rules, ◌≡◌, ℕ, sym, refl, ap, subst}
-use Rattle.rcu_model.specs.Machine.{IsOpen}
-use Rattle.live_log.specs.Log.{state_of, section}
-use Rattle.live_words.specs.live_table.Rights.{count_in}
-use Rattle.live_words.specs.live_rule.declared.view.View.{View}
+use Rattle.live_read.proofs.Cited.{rules, ◌≡◌, ℕ, sym, refl, ap, subst, IsOpen, state_of, section, count_in, View}
 use Rattle.live_read.proofs.Finding.{stands, looks, first_some}
 use Rattle.live_read.proofs.reader_core.ReaderCore.first.Goals as goal
 

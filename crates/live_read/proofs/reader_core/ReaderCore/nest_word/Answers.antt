@@ -1,6 +1,4 @@
-use Rattle.std.proofs.Common.{rules, ◌≡◌, false, Ok, refl, arith}
-use Rattle.reader_word.specs.declared.layout.Layout.TheVariants.{Wide}
-use Rattle.reader_word.specs.Word.{count_of, entered_of}
+use Rattle.live_read.proofs.Cited.{rules, ◌≡◌, false, Ok, refl, arith, Wide, count_of, entered_of}
 use Rattle.live_read.proofs.Entering.{enters}
 use Rattle.live_read.proofs.reader_core.ReaderCore.nest_word.Goals as goal
 

@@ -1,5 +1,4 @@
-use Rattle.std.proofs.Common.{refl, ap}
-use Rattle.live_words.specs.live_rule.declared.view.View.{View}
+use Rattle.live_read.proofs.Cited.{refl, ap, View}
 use Rattle.live_read.proofs.Finding.{stands, held_on, looks, next_none, next_some}
 use Rattle.live_read.proofs.reader_core.ReaderCore.next.Goals as goal
 

@@ -1,10 +1,4 @@
-use Rattle.std.proofs.Common.{rules, ◌≡◌, ◌==◌, Ok, ◌∙◌, refl, subst, arith}
-use Rattle.reader_word.specs.declared.layout.Layout.TheVariants.{Wide}
-use Rattle.reader_word.specs.Word.{count_of, entered_of}
-use Rattle.live_log.specs.Log.{seq_of, IsBound}
-use Rattle.live_log.proofs.Lemmas.{bounded}
-use Rattle.live_words.specs.live_readers.Sections.{opens}
-use Rattle.live_words.proofs.live_readers.Lemmas.{opened_after, copied_before, phase_copied}
+use Rattle.live_read.proofs.Cited.{rules, ◌≡◌, ◌==◌, Ok, ◌∙◌, refl, subst, arith, Wide, count_of, entered_of, seq_of, IsBound, bounded, opens, opened_after, copied_before, phase_copied}
 use Rattle.live_read.proofs.Entering.{enters}
 use Rattle.live_read.proofs.reader_core.ReaderCore.open_word.Goals as goal
 

@@ -1,9 +1,4 @@
-use Rattle.std.proofs.Common.{sym, subst}
-use Rattle.atomic_table.specs.declared.shared.Seat.{Seat}
-use Rattle.live_log.specs.declared.callback_id.CallbackId.{CallbackId}
-use Rattle.live_words.specs.live_rule.declared.view.View.{View}
-use Rattle.live_words.specs.live_rule.Places.{slot_at}
-use Rattle.live_words.specs.live_rule.Readers.{Fits}
+use Rattle.live_read.proofs.Cited.{sym, subst, Seat, CallbackId, View, slot_at, Fits}
 use Rattle.live_read.specs.Registering.{Finds}
 use Rattle.live_read.proofs.Seeking.{closed_fits, finds_looks}
 use Rattle.live_read.proofs.reader_core.ReaderCore.register.Goals as goal

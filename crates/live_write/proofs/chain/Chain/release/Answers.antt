@@ -1,7 +1,4 @@
-use Rattle.std.proofs.Common.{ap, sym, subst}
-use Rattle.live_log.specs.Log.{Log, Begins}
-use Rattle.live_log.proofs.Lemmas.{begins_trans}
-use Rattle.live_read.specs.Hearing.{IsAfter}
+use Rattle.live_write.proofs.Cited.{ap, sym, subst, Log, Begins, begins_trans, IsAfter}
 use Rattle.live_write.proofs.chain.Chain.release.Goals as goal
 
 pub returns-clause-heard : goal.returns-clause-heard

@@ -1,12 +1,10 @@
-use Rattle.std.proofs.Common.{rules, [], ◌∷◌, sym}
-use denote.Param.Always.{always_mut, mut_by}
-use denote.Param.Members.{Called}
+use Rattle.rcu.proofs.Cited.{rules, [], ◌∷◌, sym, always_mut, mut_by, Called}
 use Rattle.rcu.specs.Keys.{HasWord}
 use Rattle.rcu.proofs.Walking.{folds_at, folds_through}
 use Rattle.rcu.proofs.map.Map.for_each.Goals as goal
 
-pub for_each-requires-clause-callable : goal.for_each-requires-clause-callable
-for_each-requires-clause-callable g c = mut_by _ (λ s. always_mut g.V.FnMut s.0.now) (λ s a i. i) (λ s a r t i e. search rules) _ c.requires.callable
+pub for_each-requires : goal.for_each-requires
+for_each-requires g c = record { callable = mut_by _ (λ s. always_mut g.V.FnMut s.0.now) (λ s a i. i) (λ s a r t i e. search rules) _ c.requires.callable }
 
 pub returns-clause-met : goal.returns-clause-met
 returns-clause-met g c =

@@ -1,7 +1,4 @@
-use denote.Param.{copied}
-use Rattle.std.proofs.Common.{rules, ◌≡◌, inl, subst, sym}
-use Rattle.std.proofs.lemmas.Result.{IfErr-weaker, IfOk-weaker, err_from_is_err_and}
-use Rattle.rcu_model.specs.declared.refusal.Refusal.TheVariants.{Busy}
+use Rattle.rcu.proofs.Cited.{copied, rules, ◌≡◌, inl, subst, sym, IfErr-weaker, IfOk-weaker, err_from_is_err_and, Busy}
 use Rattle.rcu.specs.Resizing.{IsNotResized, IsNotTaken}
 use Rattle.rcu.proofs.Moving.{moves_none, moves_on, refused_moves, untidied_busy, untidied_grown}
 use Rattle.rcu.proofs.map.Map.resize.Goals as goal

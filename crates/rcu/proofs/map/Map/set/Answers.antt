@@ -1,5 +1,4 @@
-use base.Stored.{Gv}
-use Rattle.std.proofs.Common.{rules, ℕ, Some, inl, inr, subst}
+use Rattle.rcu.proofs.Cited.{Gv, rules, ℕ, Some, inl, inr, subst}
 use Rattle.rcu.specs.Keys.{GivesWord}
 use Rattle.rcu.specs.Reclaiming.{gone_code}
 use Rattle.rcu.proofs.Giving.{gives_after, gives_insertion, gives_replacement}

@@ -1,6 +1,4 @@
-use Rattle.std.proofs.Common.{subst, sym, refl}
-use Rattle.live_log.specs.Log.{Log, Begins}
-use Rattle.live_log.proofs.Lemmas.{begins_trans}
+use Rattle.rcu.proofs.Cited.{subst, sym, refl, Log, Begins, begins_trans}
 use Rattle.rcu.proofs.Hearing.{still_after}
 use Rattle.rcu.proofs.pending.PendingOf+LiveCookie+Handle+B+T.open.Goals as goal
 

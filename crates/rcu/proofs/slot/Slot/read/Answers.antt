@@ -1,5 +1,4 @@
-use Rattle.std.proofs.Common.{rules}
-use Rattle.rcu_hash.proofs.live_read.Lemmas.{looks_twice}
+use Rattle.rcu.proofs.Cited.{rules, looks_twice}
 use Rattle.rcu.specs.Slots.{any_change}
 use Rattle.rcu.proofs.slot.Slot.read.Goals as goal
 

@@ -1,5 +1,4 @@
-use base.Stored.{Gv}
-use Rattle.std.proofs.Common.{ℕ, List, ◌∙◌, ◌%◌, ap, refl, subst}
+use Rattle.rcu.proofs.Cited.{Gv, ℕ, List, ◌∙◌, ◌%◌, ap, refl, subst}
 use Rattle.rcu.specs.Slots.{PushesValue, ReplacesValue}
 use Rattle.rcu.proofs.Putting.{if_none, if_some, pushes_after, replaces_after}
 use Rattle.rcu.proofs.Refused.{goes_none, goes_on, put_found}

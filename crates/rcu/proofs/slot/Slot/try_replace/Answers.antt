@@ -1,15 +1,4 @@
-use Rattle.std.proofs.Common.{◌%◌, rules, ◌≡◌, ◌≢◌, ◌∙◌, ℕ, List, [], Some, length, ap, arith, inl, inr, subst, ⊎_elim}
-use Rattle.rcu_model.specs.Sets.{first_of}
-use Rattle.live_log.specs.declared.event.LiveEvent.TheVariants.{Object}
-use Rattle.live_log.specs.declared.event.ObjectEvent.TheVariants.{Push, Replace}
-use Rattle.live_log.specs.Log.{objects_of}
-use Rattle.rcu_hash.specs.live_rule.declared.view.View.{View}
-use Rattle.rcu_hash.specs.live_table.Rights.{cell_in, object_in, own_in, payload_in}
-use Rattle.rcu_hash.proofs.live_read.Lemmas.{stays_makes}
-use Rattle.rcu_hash.specs.live_write.Chains.{list_in, push_by, replace_by}
-use Rattle.rcu_hash.specs.live_reclaim.Refusing.{RefusesRetirement}
-use Rattle.rcu_hash.specs.rcu_list.Calls.{HandsOver}
-use Rattle.rcu_hash.proofs.rcu_list.Lemmas.{gives_back}
+use Rattle.rcu.proofs.Cited.{◌%◌, rules, ◌≡◌, ◌≢◌, ◌∙◌, ℕ, List, [], Some, length, ap, arith, inl, inr, subst, ⊎_elim, first_of, Object, Push, Replace, objects_of, View, cell_in, object_in, own_in, payload_in, stays_makes, list_in, push_by, replace_by, RefusesRetirement, HandsOver, gives_back}
 use Rattle.rcu.specs.Slots.{PutsValue, any_change}
 use Rattle.rcu.proofs.Hearing.{stays_on, still_after, went_on}
 use Rattle.rcu.proofs.Putting.{after_all, first_replaced, none_first, pushed_words, queued_later, replaced_words, was_first, was_listed}

@@ -1,21 +1,4 @@
-use Rattle.std.proofs.Common.{◌≡◌, ◌≤◌, ◌+◌, ◌%◌, ◌==◌, ◌++◌, ℕ, List, [], ◌∷◌, Option, None, Some, IfNone, IfSome, if◌then◌else◌, length, map, vec_len, slice_index_or, append_assoc, sym, ap, ◌∙◌, subst, arith}
-use Rattle.std.proofs.lemmas.List.{length-map, take_all}
-use Rattle.std.proofs.lemmas.Result.{err_from_is_err_and}
-use Rattle.live_log.specs.Log.{record_of}
-use Rattle.live_log.specs.Tables.{tabled}
-use Rattle.live_log.proofs.Lemmas.{begins_trans, run_of, tabled_maps}
-use Rattle.rcu_list.specs.live_rule.declared.rights.ChainRight.{ChainRight}
-use Rattle.rcu_list.specs.live_rule.declared.view.Look.{Look}
-use Rattle.rcu_list.specs.live_table.Rights.{cell_in}
-use Rattle.rcu_list.specs.live_write.Chains.{list_in}
-use Rattle.rcu_list.proofs.live_write.Lemmas.{went_both}
-use Rattle.rcu_list.specs.Maps.{value_in}
-use Rattle.rcu_list.proofs.Lemmas.{same_own, stays_both}
-use Rattle.rcu_hash.specs.Buckets.{IsBucket}
-use Rattle.rcu_hash.specs.Copies.{AreRanked, value_among}
-use Rattle.rcu_hash.proofs.Buckets.{bucket_walked}
-use Rattle.rcu_hash.proofs.Copies.{IsCopied, copied_more, copied_skip, falls_known, found_more, got_at, got_words, more_ranked, value_walked}
-use Rattle.rcu_hash.proofs.Freeing.{but_both}
+use Rattle.rcu_hash.proofs.Cited.{run_of, tabled_maps, begins_trans, record_of, tabled, IsBucket, AreRanked, value_among, same_own, stays_both, went_both, value_in, ChainRight, Look, cell_in, list_in, ◌≡◌, ℕ, ◌+◌, ◌≤◌, [], ◌∷◌, ◌∙◌, ◌%◌, ◌==◌, if◌then◌else◌, ◌++◌, List, length, sym, ap, subst, arith, Option, Some, None, map, append_assoc, slice_index_or, IfSome, IfNone, vec_len, take_all, length-map, err_from_is_err_and, more_ranked, IsCopied, copied_skip, copied_more, found_more, falls_known, value_walked, got_at, got_words, bucket_walked, but_both}
 use Rattle.rcu_hash.proofs.bucket.Bucket.copy.Goals as goal
 use Rattle.rcu_hash.proofs.bucket.Bucket.copy.Goals.{then-words-buckets+in_ok-copy_key, else-words-buckets}
 

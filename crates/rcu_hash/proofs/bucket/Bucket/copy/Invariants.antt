@@ -1,15 +1,4 @@
-use Rattle.std.proofs.Common.{◌≡◌, ◌++◌, ℕ, List, map}
-use Rattle.rcu_model.specs.Sets.{In}
-use Rattle.live_log.specs.Log.{Begins, record_of}
-use Rattle.live_log.specs.Tables.{tabled}
-use Rattle.rcu_list.specs.live_read.Hearing.{Stays}
-use Rattle.rcu_list.specs.live_rule.declared.view.Look.{Look}
-use Rattle.rcu_list.specs.live_table.Rights.{cell_in}
-use Rattle.rcu_list.specs.live_table.Steps.{Keeps, Went}
-use Rattle.rcu_list.specs.live_write.Chains.{list_in}
-use Rattle.rcu_hash.specs.Copies.{AreRanked}
-use Rattle.rcu_hash.specs.Freeing.{FreesAllBut}
-use Rattle.rcu_hash.proofs.Copies.{IsCopied}
+use Rattle.rcu_hash.proofs.Cited.{Begins, record_of, tabled, AreRanked, FreesAllBut, Stays, Look, cell_in, Went, Keeps, list_in, In, ◌≡◌, ℕ, ◌++◌, List, map, IsCopied}
 use Rattle.rcu_hash.proofs.bucket.Bucket.copy.Given as goal
 
 abbrev pub invariant-loop-index : goal.invariant-loop-index

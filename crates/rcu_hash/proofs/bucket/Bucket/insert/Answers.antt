@@ -1,26 +1,6 @@
-use Rattle.std.proofs.Common.{◌≡◌, ℕ, List, [], ◌∷◌, ◌++◌, refl, ap, sym, ◌∙◌, subst, slice_index_or}
-use Rattle.rcu_model.specs.declared.event.ObjectId.{ObjectId}
-use Rattle.live_log.specs.Log.{Log, Begins}
-use Rattle.live_log.specs.Tables.{IsFree, tabled}
-use Rattle.live_log.proofs.Lemmas.{begins_trans, free_takes, tabled_maps}
-use Rattle.rcu_list.specs.live_rule.declared.rights.ChainRight.{ChainRight}
-use Rattle.rcu_list.specs.live_rule.declared.view.Look.{Look}
-use Rattle.rcu_list.specs.live_read.Hearing.{MakesLast}
-use Rattle.rcu_list.proofs.live_read.Lemmas.{stays_makes}
-use Rattle.rcu_list.specs.live_write.Chains.{list_in}
-use Rattle.std.proofs.lemmas.Result.{err_from_is_err_and}
+use Rattle.rcu_hash.proofs.Cited.{tabled_maps, begins_trans, free_takes, Log, Begins, IsFree, tabled, InsertsThrough, bucket_of, Naming, keys_pushed, same_own, chain_known, comes_in, pushed_map, rank_walked, stays_makes, MakesLast, ChainRight, Look, list_in, ObjectId, ◌≡◌, ℕ, [], ◌∷◌, ◌∙◌, ◌++◌, List, sym, ap, subst, slice_index_or, err_from_is_err_and, insertion_through, inserts_through, may_write_reserved, bucket_on, bucket_walked}
 use Rattle.rcu_list.specs.Calls as list
-use Rattle.rcu_list.specs.Maps.{map_of}
 use Rattle.rcu_list.specs.Refusing as refusing
-use Rattle.rcu_list.proofs.Lemmas.{chain_known, comes_in, keys_pushed, pushed_map, rank_walked, same_own}
-use Rattle.rcu_hash.specs.Directories.{LeadsTo, directed_map}
-use Rattle.rcu_hash.specs.Publishing.{InsertsThrough}
-use Rattle.rcu_hash.specs.Tables.{bucket_of}
-use Rattle.rcu_hash.specs.declared.directory.Naming.{Naming}
-use Rattle.rcu_hash.proofs.Buckets.{bucket_on, bucket_walked, may_write_reserved}
-use Rattle.rcu_hash.proofs.Changing.{table_inserts}
-use Rattle.rcu_hash.proofs.Hearing.{insertion_through}
-use Rattle.rcu_hash.proofs.Named.{inserts_through, rest}
 use Rattle.rcu_hash.proofs.bucket.Bucket.insert.Goals as goal
 
 pub invariant_of-self : goal.invariant_of-self
@@ -48,9 +28,9 @@ invariant_of-self-2 g c =
       fits = b.fits;
     }
 
-pub returns-clause-inserted : goal.returns-clause-inserted
-returns-clause-inserted g c =
-    let q = g.P.GracePlan.QSBR in let maps = tabled_maps q in let w = g.W.Caller in let w0 = c.args.caller.now in let w1 = c.hear.new.caller in let w2 = c.prepare_insertion.new.caller in
+pub returns : goal.returns
+returns g c =
+    let q = g.P.GracePlan.QSBR in let maps = tabled_maps q in let w = g.W.Caller in let w0 = c.args.caller.now in let w1 = c.hear.new.caller in let w2 = c.prepare_insertion.new.caller in let w3 = c.push.new.caller in
     let b = c.hear.new.self in let n = b.naming in let one = b.chain in let two = c.prepare_insertion.new.chain in let four = c.push.new.self in
     let r = c.in_ok-owned.ensures in let l = r.looked in let p = c.push.ensures in let owned = c.in_ok-owned.owned in let h = c.hear.ensures in
     let chains = g.B.Site.sizes.chains in let seen : Log = w.seen w0 in let heard : Log = w.heard w0 in let key = c.args.key in let value = c.args.value in
@@ -67,31 +47,22 @@ returns-clause-inserted g c =
     )
     r.ready.2 in
     let bucket = h.same.2 ∙ (sym c.requires.key ∙ ap (λ (m : Naming). bucket_of m.first m.buckets key) (sym h.same.1)) in
-    let into = table_inserts q tabled n.first n.buckets known seen heard seen heard (λ x y z. (y, z)) key log value (subst (λ (x : ℕ). list.Inserts q tabled x known seen heard key value log) bucket came) in
     let was = b.is.3 in let is = (invariant_of-self-2 g c.before).is.3 in
-    let through = inserts_through chains n.first n.buckets b.fits.0 b.fits.1 q n.directory n.object known log p.pushed.run was.0 is.0 was.1 seen heard key log
-    (λ x y step. subst (Begins known) (ap rest (sym p.pushed.wrote ∙ step)) since) ([], refl) value into in
-    subst (λ (x : ℕ). InsertsThrough q tabled chains c.args.self.now.naming.directory seen heard key value x (w.heard c.push.new.caller)) c.requires.key
-    (subst (λ (m : Naming). InsertsThrough q tabled chains m.directory seen heard key value (bucket_of m.first m.buckets key) (w.heard c.push.new.caller)) h.same.1
-    (subst (InsertsThrough q tabled chains n.directory seen heard key value (bucket_of n.first n.buckets key)) (sym p.heard) through))
-
-pub returns-clause-heard : goal.returns-clause-heard
-returns-clause-heard g c =
-    let h = c.hear.ensures.same.0 in let r = c.in_ok-owned.ensures.same in let t = c.in_ok-owned.ensures.took in let p = c.push.ensures.same in
-    (p.2 ∙ (r.1.0 ∙ h.1), (c.in_ok-owned.owned.seat.me.0.object, (t.0, p.1 ∙ (t.1 ∙ ap (λ (l : List Look). t.0 ++ l) h.0.1), t.2)))
-
-pub returns-clause-changes : goal.returns-clause-changes
-returns-clause-changes g c =
-    let w = g.W.Caller in let w0 = c.args.caller.now in let w1 = c.hear.new.caller in let w2 = c.prepare_insertion.new.caller in let w3 = c.push.new.caller in let p = c.push.ensures in let log : Log = c.push.new.self.seat.me.0.seen in
-    subst (MakesLast w w0 w3) (sym p.heard) (stays_makes w w0 w1 w3 log c.hear.ensures.same.0.0.0 (stays_makes w w1 w2 w3 log c.in_ok-owned.ensures.same.0 p.same.0))
+    let through = inserts_through chains n.first n.buckets b.fits.0 b.fits.1 q n.directory n.object known log p.pushed.run was.0 is.0 was.1 seen heard key value (subst (λ (x : ℕ). list.Inserts q tabled x known seen heard key value log) bucket came) in record {
+      inserted = subst (λ (x : ℕ). InsertsThrough q tabled chains c.args.self.now.naming.directory seen heard key value x (w.heard c.push.new.caller)) c.requires.key
+          (subst (λ (m : Naming). InsertsThrough q tabled chains m.directory seen heard key value (bucket_of m.first m.buckets key) (w.heard c.push.new.caller)) h.same.1
+          (subst (InsertsThrough q tabled chains n.directory seen heard key value (bucket_of n.first n.buckets key)) (sym p.heard) through));
+      changes = subst (MakesLast w w0 w3) (sym p.heard) (stays_makes w w0 w1 w3 log h.same.0.0.0 (stays_makes w w1 w2 w3 log r.same.0 p.same.0));
+      heard = (p.same.2 ∙ (r.same.1.0 ∙ h.same.0.1), (owned.seat.me.0.object, (r.took.0, p.same.1 ∙ (r.took.1 ∙ ap (λ (l : List Look). r.took.0 ++ l) h.same.0.0.1), r.took.2)));
+      refused = tt;
+      same = (h.same.1, p.list.3 ∙ (l.2 ∙ h.same.2));
+    }
 
 pub returns-in_err-owned-clause-refused : goal.returns-in_err-owned-clause-refused
 returns-in_err-owned-clause-refused g c =
     let q = g.P.GracePlan.QSBR in let w = g.W.Caller in let sizes = g.B.Site.sizes in let w0 = c.args.caller.now in let w1 = c.hear.new.caller in let w2 = c.prepare_insertion.new.caller in
     let old = c.args.self.now in let n = old.naming in let b = c.hear.new.self in let h = c.hear.ensures in let key = c.args.key in let known : Log = b.chain.seat.me.0.seen in
     let p = err_from_is_err_and c.from_residual.result c.from_residual.ensures.1 in
-    let map_is = subst (λ (l : Log). directed_map sizes.chains n.directory l key ≡ map_of l (bucket_of n.first n.buckets key) key) h.told.2 (h.map key) in
-    let leads = subst (λ (l : Log). LeadsTo n.directory l key (bucket_of n.first n.buckets key)) h.told.2 (h.leads key) in
-    rw p.1 (insertion_through w q tabled sizes w0 w1 w2 h.same.0 h.told.0 p.0 known h.told.2 n.first n.buckets key n.directory map_is leads
+    rw p.1 (insertion_through w q tabled sizes w0 w1 w2 h.same.0 h.told.0 p.0 known h.told.2 n.first n.buckets key n.directory (h.map key) (h.leads key)
     (subst (λ (x : ℕ). refusing.RefusesInsertion w q tabled sizes w1 w2 p.0 known x key) (h.same.2 ∙ sym c.requires.key)
     (subst (λ e. refusing.RefusesInsertion w q tabled sizes w1 w2 e known b.chain.number key) (sym p.2) c.in_err-owned.ensures.refused)))

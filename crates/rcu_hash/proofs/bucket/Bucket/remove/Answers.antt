@@ -1,30 +1,5 @@
-use Rattle.std.proofs.Common.{◌≡◌, ◌%◌, ℕ, ◌≤◌, List, [], ◌∷◌, None, IsSome, arith, length, slice_get, ap, sym, ◌∙◌, subst, refl}
-use Rattle.rcu_model.specs.declared.event.ObjectId.{ObjectId}
-use Rattle.rcu_model.proofs.Lemmas.{some_is}
-use Rattle.live_log.specs.Keys.{key_of}
-use Rattle.live_log.specs.Log.{Log, Begins, record_of}
-use Rattle.live_log.specs.Tables.{IsFree, tabled}
-use Rattle.live_log.proofs.Lemmas.{begins_trans, free_takes, tabled_maps}
-use Rattle.rcu_list.specs.live_rule.declared.rights.ChainRight.{ChainRight}
-use Rattle.rcu_list.specs.live_items.Retiring.{Queues}
-use Rattle.rcu_list.proofs.live_read.Lemmas.{stays_makes}
-use Rattle.rcu_list.specs.live_write.Chains.{list_in}
-use Rattle.rcu_list.proofs.live_write.Lemmas.{index_has}
-use Rattle.std.proofs.lemmas.Option.{slice_get_within}
-use Rattle.rcu_model.specs.declared.refusal.Refusal.TheVariants.{Missing}
-use Rattle.rcu_list.specs.live_reclaim.Refusing.{RefusesRetirement}
+use Rattle.rcu_hash.proofs.Cited.{tabled_maps, begins_trans, free_takes, key_of, Log, Begins, record_of, IsFree, tabled, IsBucket, RemovesThrough, bucket_of, Naming, note_walked, same_own, chain_known, by_result, by_second, found_there, if_err, walked_missing, cut_map, if_ok, keys_cut, may_remove, stays_makes, index_has, map_of, Queues, RefusesRetirement, ChainRight, list_in, some_is, ObjectId, Missing, ◌≡◌, ℕ, ◌≤◌, [], ◌∷◌, ◌∙◌, ◌%◌, List, length, refl, sym, ap, subst, arith, None, slice_get, IsSome, slice_get_within, removal_missing, removal_refused, removes_through, may_write_reserved, bucket_on, bucket_walked}
 use Rattle.rcu_list.specs.Calls as list
-use Rattle.rcu_list.specs.Maps.{map_of}
-use Rattle.rcu_hash.specs.Directories.{LeadsTo, directed_map}
-use Rattle.rcu_hash.proofs.Hearing.{removal_missing, removal_refused}
-use Rattle.rcu_list.proofs.Lemmas.{by_result, by_second, found_there, if_err, walked_missing, chain_known, cut_map, if_ok, keys_cut, may_remove, note_walked, same_own}
-use Rattle.rcu_hash.specs.Buckets.{IsBucket}
-use Rattle.rcu_hash.specs.declared.directory.Naming.{Naming}
-use Rattle.rcu_hash.specs.Publishing.{RemovesThrough}
-use Rattle.rcu_hash.specs.Tables.{bucket_of}
-use Rattle.rcu_hash.proofs.Buckets.{bucket_on, bucket_walked, may_write_reserved}
-use Rattle.rcu_hash.proofs.Changing.{table_removes}
-use Rattle.rcu_hash.proofs.Named.{removes_through, rest}
 use Rattle.rcu_hash.proofs.bucket.Bucket.remove.Goals as goal
 
 pub invariant_of-self : goal.invariant_of-self
@@ -73,9 +48,7 @@ returns-clause-removed g c =
       subst (λ (x : Log). Begins x r.published.before) h.same.0.0.0.0 r.published.after.after_caller.0,
       begins_trans heard (w.heard w1) r.published.before h.told.0.after_heard r.published.after.after_caller.1,
     ) in
-    let into = table_removes q tabled n.first n.buckets known seen heard seen heard (λ x y v. (y, v)) key log r.object (subst (λ (x : ℕ). list.Removes q tabled x known seen heard key r.object log) bucket came) in
-    let through = removes_through chains n.first n.buckets b.fits.0 b.fits.1 q n.directory n.object known log r.published.run was.0 is.0 was.1 seen heard key log
-    (λ x y step. subst (Begins known) (ap rest (sym r.published.wrote ∙ step)) since) ([], refl) r.object into in (
+    let through = removes_through chains n.first n.buckets b.fits.0 b.fits.1 q n.directory n.object known log r.published.run was.0 is.0 was.1 seen heard key r.object (subst (λ (x : ℕ). list.Removes q tabled x known seen heard key r.object log) bucket came) in (
       r.object,
       log,
       subst (λ (x : ℕ). RemovesThrough q tabled chains c.args.self.now.naming.directory seen heard key x r.object log) c.requires.key
@@ -89,10 +62,8 @@ pub returns-in_default-clause-refused : goal.returns-in_default-clause-refused
 returns-in_default-clause-refused g c =
     let q = g.P.GracePlan.QSBR in let w = g.W.Caller in let sizes = g.B.Site.sizes in let w0 = c.args.caller.now in let w1 = c.hear.new.caller in
     let n = c.args.self.now.naming in let one = c.hear.new.self.chain in let h = c.hear.ensures in let key = c.args.key in let known : Log = one.seat.me.0.seen in let i = c.in_default.ensures in
-    let map_is = subst (λ (l : Log). directed_map sizes.chains n.directory l key ≡ map_of l (bucket_of n.first n.buckets key) key) h.told.2 (h.map key) in
     let missing = walked_missing q tabled (tabled_maps q) one.number one.seat.me c.index_of.new.self.seat.me i.walked.1 one.owns.1 one.owns.2 key i.none in
-    let leads = subst (λ (l : Log). LeadsTo n.directory l key (bucket_of n.first n.buckets key)) h.told.2 (h.leads key) in
-    removal_missing w q tabled sizes w0 w1 w1 h.same.0 h.told.0 Missing known h.told.2 n.first n.buckets key n.directory map_is leads refl
+    removal_missing w q tabled sizes w0 w1 w1 h.same.0 h.told.0 Missing known h.told.2 n.first n.buckets key n.directory (h.map key) (h.leads key) refl
     (subst (λ (x : ℕ). map_of known x key ≡ None) (h.same.2 ∙ sym c.requires.key) missing) refl
 
 pub returns-clause-refused : goal.returns-clause-refused
@@ -100,14 +71,12 @@ returns-clause-refused g c =
     let q = g.P.GracePlan.QSBR in let maps = tabled_maps q in let w = g.W.Caller in let sizes = g.B.Site.sizes in let w0 = c.args.caller.now in let w1 = c.hear.new.caller in let w2 = c.cut_retire-answer.new.caller in
     let n = c.args.self.now.naming in let one = c.hear.new.self.chain in let two = c.index_of.new.self in let h = c.hear.ensures in let key = c.args.key in let known : Log = one.seat.me.0.seen in
     let i = c.in-Some.ensures in let l = i.walked in let f = i.found in
-    let map_is = subst (λ (x : Log). directed_map sizes.chains n.directory x key ≡ map_of x (bucket_of n.first n.buckets key) key) h.told.2 (h.map key) in
     let list_is : list_in two.seat.me.0 ≡ list_in one.seat.me.0 = ap (λ (x : ChainRight). x.objects) (same_own q tabled maps one.number one.seat.me two.seat.me l.1 one.owns.1 one.owns.2) in
     let bucket = h.same.2 ∙ sym c.requires.key in
     let there = subst (λ (x : ℕ). IsSome (map_of known x key)) bucket (found_there q tabled maps one.number one.seat.me two.seat.me l.1 one.owns.1 one.owns.2 key c.in-Some.index f) in
     let within = slice_get_within (list_in one.seat.me.0) c.in-Some.index f.object f.at in
-    let leads = subst (λ (x : Log). LeadsTo n.directory x key (bucket_of n.first n.buckets key)) h.told.2 (h.leads key) in
     if_err c.cut_retire-answer.result _ _ _ (λ x r b.
-    removal_refused w q tabled sizes w0 w1 w2 h.same.0 h.told.0 x.0 known h.told.2 n.first n.buckets key n.directory map_is leads there
+    removal_refused w q tabled sizes w0 w1 w2 h.same.0 h.told.0 x.0 known h.told.2 n.first n.buckets key n.directory (h.map key) (h.leads key) there
     (subst (λ (y : ℕ). RefusesRetirement w q tabled sizes (y % sizes.queues) w1 w2 x.0) (l.2 ∙ bucket)
     (by_second r (λ m. let few : length (list_in two.seat.me.0) ≤ c.in-Some.index = m.1 in let same : length (list_in two.seat.me.0) ≡ length (list_in one.seat.me.0) = ap length list_is in omega arith) (λ k. k.1))))
     c.cut_retire-answer.ensures.refused c.cut_retire-answer.ensures.back

@@ -1,32 +1,5 @@
-use Rattle.std.proofs.Common.{◌≡◌, ◌%◌, ◌≤◌, ℕ, List, [], ◌∷◌, ◌++◌, IsSome, arith, length, slice_get, refl, ap, sym, ◌∙◌, subst, slice_index_or}
-use Rattle.rcu_model.specs.declared.event.ObjectId.{ObjectId}
-use Rattle.rcu_model.specs.Sets.{In}
-use Rattle.rcu_model.proofs.Lemmas.{some_is}
-use Rattle.live_log.specs.Keys.{key_of}
-use Rattle.live_log.specs.Log.{Log, Begins, record_of}
-use Rattle.live_log.specs.Tables.{IsFree, tabled}
-use Rattle.live_log.proofs.Lemmas.{begins_trans, free_takes, tabled_maps}
-use Rattle.rcu_list.specs.live_rule.declared.rights.ChainRight.{ChainRight}
-use Rattle.rcu_list.specs.live_rule.declared.view.Look.{Look}
-use Rattle.rcu_list.specs.live_items.Retiring.{Queues}
-use Rattle.rcu_list.specs.live_reclaim.Refusing.{RefusesRetirement}
-use Rattle.rcu_list.proofs.live_read.Lemmas.{stays_makes}
-use Rattle.rcu_list.specs.live_write.Chains.{list_in}
-use Rattle.rcu_list.proofs.live_write.Lemmas.{index_has}
-use Rattle.std.proofs.lemmas.Option.{slice_get_within}
+use Rattle.rcu_hash.proofs.Cited.{tabled_maps, begins_trans, free_takes, key_of, Log, Begins, record_of, IsFree, tabled, IsBucket, ReplacesThrough, bucket_of, Naming, note_walked, same_own, chain_known, by_result, by_second, gives_back, keys_replaced, replaced_map, takes_over, stays_makes, index_has, map_of, RefusesSuccessor, Queues, RefusesRetirement, ChainRight, Look, list_in, some_is, In, ObjectId, ◌≡◌, ℕ, ◌≤◌, [], ◌∷◌, ◌∙◌, ◌%◌, ◌++◌, List, length, sym, ap, subst, arith, slice_get, slice_index_or, IsSome, slice_get_within, successor_through, exchange_through, replaces_through, may_write_reserved, bucket_on, bucket_walked}
 use Rattle.rcu_list.specs.Calls as list
-use Rattle.rcu_list.specs.Maps.{map_of}
-use Rattle.rcu_list.specs.Refusing.{RefusesSuccessor}
-use Rattle.rcu_hash.specs.Directories.{LeadsTo, directed_map}
-use Rattle.rcu_hash.proofs.Hearing.{exchange_through, successor_through}
-use Rattle.rcu_list.proofs.Lemmas.{by_result, by_second, chain_known, gives_back, keys_replaced, note_walked, replaced_map, same_own, takes_over}
-use Rattle.rcu_hash.specs.Buckets.{IsBucket}
-use Rattle.rcu_hash.specs.declared.directory.Naming.{Naming}
-use Rattle.rcu_hash.specs.Publishing.{ReplacesThrough}
-use Rattle.rcu_hash.specs.Tables.{bucket_of}
-use Rattle.rcu_hash.proofs.Buckets.{bucket_on, bucket_walked, may_write_reserved}
-use Rattle.rcu_hash.proofs.Changing.{table_replaces}
-use Rattle.rcu_hash.proofs.Named.{replaces_through, rest}
 use Rattle.rcu_hash.proofs.bucket.Bucket.replace.Goals as goal
 
 pub invariant_of-self : goal.invariant_of-self
@@ -78,10 +51,8 @@ returns-in-Ok-answer-clause-replaced g c =
       begins_trans heard (w.heard w1) before h.told.0.after_heard (begins_trans (w.heard w1) (w.heard w2) before p.heard.after_heard r.published.after.after_caller.1),
     ) in
     let bucket = h.same.2 ∙ (sym c.requires.key ∙ ap (λ (m : Naming). bucket_of m.first m.buckets key) (sym h.same.1)) in
-    let into = table_replaces q tabled n.first n.buckets known seen heard seen heard (λ x y v. (y, v)) key log value r.object (subst (λ (x : ℕ). list.Replaces q tabled x known seen heard key value r.object log) bucket came) in
     let was = b.is.3 in let is = (invariant_of-self-2 g c.before.before).is.3 in
-    let through = replaces_through chains n.first n.buckets b.fits.0 b.fits.1 q n.directory n.object known log r.published.run was.0 is.0 was.1 seen heard key log
-    (λ x y step. subst (Begins known) (ap rest (sym r.published.wrote ∙ step)) since) ([], refl) value r.object into in (
+    let through = replaces_through chains n.first n.buckets b.fits.0 b.fits.1 q n.directory n.object known log r.published.run was.0 is.0 was.1 seen heard key value r.object (subst (λ (x : ℕ). list.Replaces q tabled x known seen heard key value r.object log) bucket came) in (
       r.object,
       log,
       subst (λ (x : ℕ). ReplacesThrough q tabled chains c.args.self.now.naming.directory seen heard key value x r.object log) c.requires.key
@@ -99,9 +70,7 @@ pub returns-in-Err-clause-refused : goal.returns-in-Err-clause-refused
 returns-in-Err-clause-refused g c =
     let q = g.P.GracePlan.QSBR in let w = g.W.Caller in let sizes = g.B.Site.sizes in let w0 = c.args.caller.now in let w1 = c.hear.new.caller in let w2 = c.prepare_replacement.new.caller in
     let n = c.args.self.now.naming in let b = c.hear.new.self in let h = c.hear.ensures in let key = c.args.key in let known : Log = b.chain.seat.me.0.seen in let x = c.in-Err.refusal in
-    let map_is = subst (λ (l : Log). directed_map sizes.chains n.directory l key ≡ map_of l (bucket_of n.first n.buckets key) key) h.told.2 (h.map key) in
-    let leads = subst (λ (l : Log). LeadsTo n.directory l key (bucket_of n.first n.buckets key)) h.told.2 (h.leads key) in
-    successor_through w q tabled sizes w0 w1 w2 h.same.0 h.told.0 x known h.told.2 n.first n.buckets key n.directory map_is leads
+    successor_through w q tabled sizes w0 w1 w2 h.same.0 h.told.0 x known h.told.2 n.first n.buckets key n.directory (h.map key) (h.leads key)
     (subst (λ (y : ℕ). RefusesSuccessor w q tabled sizes w1 w2 x known y key) (h.same.2 ∙ sym c.requires.key) c.in-Err.ensures.refused)
 
 pub returns-in-Err-answer-clause-refused : goal.returns-in-Err-answer-clause-refused
@@ -110,12 +79,10 @@ returns-in-Err-answer-clause-refused g c =
     let w0 = c.args.caller.now in let w1 = c.hear.new.caller in let w2 = c.prepare_replacement.new.caller in let w3 = c.replace_retire-answer.new.caller in let w4 = c.discard.new.caller in
     let n = c.args.self.now.naming in let one = c.hear.new.self.chain in let two = c.prepare_replacement.new.chain in let h = c.hear.ensures in let key = c.args.key in let known : Log = one.seat.me.0.seen in let x = c.in-Err-answer.refusal in
     let a = c.in-Ok.ensures in let ready = a.ready.0 in let d = c.discard.ensures in
-    let map_is = subst (λ (l : Log). directed_map sizes.chains n.directory l key ≡ map_of l (bucket_of n.first n.buckets key) key) h.told.2 (h.map key) in
-    let leads = subst (λ (l : Log). LeadsTo n.directory l key (bucket_of n.first n.buckets key)) h.told.2 (h.leads key) in
     let bucket = h.same.2 ∙ sym c.requires.key in
     let number : two.number ≡ bucket_of n.first n.buckets key = a.looked.2 ∙ bucket in
     let within = slice_get_within (list_in two.seat.me.0) c.in-Ok.ready.0 ready.found.object ready.found.at in
-    exchange_through w q tabled sizes w0 w1 w4 h.same.0 h.told.0 x known h.told.2 n.first n.buckets key n.directory map_is leads (subst (λ (y : ℕ). IsSome (map_of known y key)) bucket a.ready.1)
+    exchange_through w q tabled sizes w0 w1 w4 h.same.0 h.told.0 x known h.told.2 n.first n.buckets key n.directory (h.map key) (h.leads key) (subst (λ (y : ℕ). IsSome (map_of known y key)) bucket a.ready.1)
     (by_second c.in-Err-answer.ensures.refused
     (λ m. let few : length (list_in two.seat.me.0) ≤ c.in-Ok.ready.0 = m.1 in omega arith)
     (λ k. gives_back w q tabled sizes w1 w2 w3 w4 x (bucket_of n.first n.buckets key % sizes.queues) c.in-Ok.ready.1.seat.me.0.object c.in-Err-answer.owned.seat.me.0.object (ap (λ o. o.seat.me.0.object) c.in-Err-answer.ensures.back.0)

@@ -1,15 +1,11 @@
-use Rattle.std.proofs.Common.{◌++◌, ◌∷◌, [], arith, ap, sym, ◌∙◌, subst, refl}
-use Rattle.live_log.specs.Log.{Log}
-use Rattle.live_log.specs.Tables.{tabled}
-use Rattle.rcu_hash.specs.Tidying.{Cuts, RetiresObject, Uses}
-use Rattle.rcu_hash.proofs.Emptying.{finds_both, finds_none, stays_none, uses_both, uses_none, uses_one, waited_later}
+use Rattle.rcu_hash.proofs.Cited.{Log, tabled, Cuts, Uses, RetiresObject, [], ◌∷◌, ◌∙◌, ◌++◌, refl, sym, ap, subst, arith, waited_later, finds_both, finds_none, stays_none, uses_none, uses_both, uses_one}
 use Rattle.rcu_hash.proofs.directory.DirectoryLock.retire_all.Goals as goal
 
 pub loop-init : goal.loop-init
 loop-init g c =
     let w = g.W.Caller in let w0 = c.args.caller.now in record {
       left = omega (arith, c.len-many.ensures);
-      uses = uses_none g.P.GracePlan.QSBR tabled g.B.Site.sizes c.args.naming.directory (w.seen w0) w g.row.D.coded.code w0 w0 c.args.jobs.now.items (w.heard w0) (w.heard w0) (stays_none w w0) ([], refl);
+      uses = uses_none g.P.GracePlan.QSBR tabled g.B.Site.sizes c.args.naming.directory (w.seen w0) w g.row.D.coded.code w0 w0 c.args.jobs.now.items (w.heard w0) (w.heard w0) (stays_none w w0) ([], refl) ([], refl);
       chain = c.requires.chain;
       number = refl;
       waited = c.requires.waited;
@@ -23,7 +19,7 @@ returns-in-Err-clause-uses g c =
     let first = c.args.jobs.now.items in let jobs = c.loop.jobs.items in let left = c.pop.new.self.items in
     let back = c.push_reserved.ensures.items ∙ (ap (λ j. left ++ j ∷ []) e.refused.0 ∙ sym c.in-Some.ensures.items) in
     subst (λ js. Uses q tabled sizes d (w.seen w0) w g.row.D.coded.code w0 w2 first js (w.heard w0) (w.heard w2)) (sym back)
-    (uses_both q tabled sizes d (w.seen w0) w g.row.D.coded.code w0 w1 w2 first jobs jobs (w.heard w0) (w.heard w1) (w.heard w2) i.uses (uses_none q tabled sizes d (w.seen w0) w g.row.D.coded.code w1 w2 jobs (w.heard w1) (w.heard w2) e.changes.1 e.heard))
+    (uses_both q tabled sizes d (w.seen w0) w g.row.D.coded.code w0 w1 w2 first jobs jobs (w.heard w0) (w.heard w1) (w.heard w2) i.uses (uses_none q tabled sizes d (w.seen w0) w g.row.D.coded.code w1 w2 jobs (w.heard w1) (w.heard w2) e.changes.1 e.same.1 e.heard))
 
 pub returns-in-Err-clause-waited : goal.returns-in-Err-clause-waited
 returns-in-Err-clause-waited g c =
@@ -41,7 +37,7 @@ loop-preserved g c =
     let does = subst (λ (seen : Log). RetiresObject q tabled sizes d seen (w.heard w1) (g.row.D.coded.code c.in-Some.job) (w.heard w2)) i.uses.made.made.0 e.retired.0 in record {
       left = let fewer = e.retired.1 in let was = i.left in omega arith;
       uses = uses_both q tabled sizes d (w.seen w0) w g.row.D.coded.code w0 w1 w2 first jobs left (w.heard w0) (w.heard w1) (w.heard w2) i.uses
-          (uses_one q tabled sizes d (w.seen w0) w g.row.D.coded.code w1 w2 jobs left c.in-Some.job (w.heard w1) (w.heard w2) (Cuts (g.row.D.coded.code c.in-Some.job)) refl e.changes.0 c.in-Some.ensures.items does);
+          (uses_one q tabled sizes d (w.seen w0) w g.row.D.coded.code w1 w2 jobs left c.in-Some.job (w.heard w1) (w.heard w2) (Cuts (g.row.D.coded.code c.in-Some.job)) refl refl e.changes.0 e.same.1 c.in-Some.ensures.items does);
       chain = e.chain;
       number = e.number ∙ i.number;
       waited = waited_later d n.object (w.heard w1) (w.heard w2) e.heard i.waited;

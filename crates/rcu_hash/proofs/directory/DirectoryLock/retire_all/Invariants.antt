@@ -1,8 +1,4 @@
-use Rattle.std.proofs.Common.{◌≡◌, ◌+◌, length}
-use Rattle.live_log.specs.Tables.{tabled}
-use Rattle.rcu_list.specs.live_write.Chains.{list_in}
-use Rattle.rcu_list.specs.domain.Waiting.{FindsMore}
-use Rattle.rcu_hash.specs.Tidying.{HasWaited, IsLeft, Uses}
+use Rattle.rcu_hash.proofs.Cited.{tabled, HasWaited, IsLeft, Uses, FindsMore, list_in, ◌≡◌, ◌+◌, length}
 use Rattle.rcu_hash.proofs.directory.DirectoryLock.retire_all.Given as goal
 
 abbrev pub invariant-loop : goal.invariant-loop

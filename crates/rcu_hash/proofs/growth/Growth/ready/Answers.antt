@@ -1,30 +1,10 @@
-use Rattle.std.proofs.Common.{[], ◌∷◌, ◌++◌, ◌∙◌, map, inl, inr, ⊎_elim, refl}
-use Rattle.std.proofs.lemmas.Result.{err_from_is_err_and}
-use Rattle.rcu_model.specs.declared.refusal.Refusal.TheVariants.{BadConfig, Memory}
-use Rattle.live_log.specs.Tables.{tabled}
-use Rattle.live_log.proofs.Lemmas.{begins_trans}
-use Rattle.rcu_list.specs.live_table.Rights.{cell_in}
-use Rattle.rcu_hash.specs.Refusing.{IsUnused}
-use Rattle.rcu_hash.proofs.Copies.{found_before, found_more}
-use Rattle.rcu_hash.proofs.Freeing.{but_after, but_both, but_weaker, frees_but, not_full}
-use Rattle.rcu_hash.proofs.Holds.{looks_both}
-use Rattle.rcu_hash.proofs.Taking.{during_earlier, told_both, told_looks}
+use Rattle.rcu_hash.proofs.Cited.{begins_trans, tabled, IsUnused, cell_in, BadConfig, Memory, [], ◌∷◌, ◌∙◌, ◌++◌, refl, inl, inr, map, ⊎_elim, err_from_is_err_and, found_more, found_before, looks_both, during_earlier, told_looks, told_both, but_both, but_after, frees_but, but_weaker, not_full}
 use Rattle.rcu_hash.proofs.growth.Growth.ready.Goals as goal
 
 pub returns-in_err-reserved-clause-looks : goal.returns-in_err-reserved-clause-looks
 returns-in_err-reserved-clause-looks g c =
     let p = err_from_is_err_and c.from_residual.result c.from_residual.ensures.1 in
     let none = not_full g.B.Site.sizes _ [] c.from_residual.result p.0 Memory p.1 (p.2 ∙ c.in_err-reserved.ensures.refused) (λ z. cc) (λ i. tt) in ([], refl, none.0, none.1)
-
-pub returns-in_err-taken-clause-looks : goal.returns-in_err-taken-clause-looks
-returns-in_err-taken-clause-looks g c =
-    let p = err_from_is_err_and c.from_residual-in_err-taken.result c.from_residual-in_err-taken.ensures.1 in
-    let none = not_full g.B.Site.sizes _ [] c.from_residual-in_err-taken.result p.0 Memory p.1 (p.2 ∙ c.in_err-taken.ensures.refused) (λ z. cc) (λ i. tt) in ([], refl, none.0, none.1)
-
-pub returns-in_err-room-clause-looks : goal.returns-in_err-room-clause-looks
-returns-in_err-room-clause-looks g c =
-    let p = err_from_is_err_and c.from_residual-in_err-room.result c.from_residual-in_err-room.ensures.1 in
-    let none = not_full g.B.Site.sizes _ [] c.from_residual-in_err-room.result p.0 Memory p.1 (p.2 ∙ c.in_err-room.ensures.refused) (λ z. cc) (λ i. tt) in ([], refl, none.0, none.1)
 
 pub returns-in-Err-clause-heard : goal.returns-in-Err-clause-heard
 returns-in-Err-clause-heard g c =

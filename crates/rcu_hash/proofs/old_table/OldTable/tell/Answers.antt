@@ -1,20 +1,12 @@
-use Rattle.std.proofs.Common.{sym, ◌∙◌, subst}
-use Rattle.live_log.specs.Log.{Log, Begins}
-use Rattle.live_log.proofs.Lemmas.{begins_trans}
-use Rattle.rcu_hash.specs.declared.directory.Naming.{Naming}
-use Rattle.rcu_hash.specs.Tidying.{IsLinked}
-use Rattle.rcu_hash.proofs.Tidied.{rest_later}
+use Rattle.rcu_hash.proofs.Cited.{begins_trans, Log, Begins, IsLinked, Naming, ◌∙◌, sym, subst, rest_later}
 use Rattle.rcu_hash.proofs.old_table.OldTable.tell.Goals as goal
 
 pub invariant_of-result : goal.invariant_of-result
 invariant_of-result g c =
     let l = c.args.self in let n = l.naming in let h = c.hear.ensures in let linked = subst (λ (m : Naming). IsLinked m.directory m.object c.hear.new.caller.seat.me.0.heard) c.take-place.ensures h.linked in record {
       some = l.some;
-      alone = l.alone;
-      keys = l.keys;
-      notes = l.notes;
+      left = l.left;
       replaced = l.replaced;
-      outside = l.outside;
       rest = rest_later g.P.GracePlan.QSBR n.directory n.object _ _ l.handle.seat.me.0.heard c.hear.new.caller.seat.me.0.heard h.heard.after_heard h.heard.run linked l.rest;
     }
 

@@ -1,7 +1,4 @@
-use Rattle.std.proofs.Common.{◌≡◌, length, map, vec_len, ap, subst, arith}
-use Rattle.std.proofs.lemmas.List.{nil_from_length}
-use Rattle.rcu_hash.specs.Tidying.{IsTidied}
-use Rattle.rcu_hash.proofs.Tidied.{rest_none, some_there}
+use Rattle.rcu_hash.proofs.Cited.{IsTidied, ◌≡◌, length, ap, subst, arith, map, vec_len, nil_from_length, rest_none, some_there}
 use Rattle.rcu_hash.proofs.table.RcuHash.find_left.Goals as goal
 
 pub returns-then-none-clause-none : goal.returns-then-none-clause-none

@@ -1,51 +1,10 @@
-use Rattle.std.proofs.Common.{rules, ◌≡◌, ◌≢◌, ◌+◌, ◌<◌, ⊎_elim, inl, inr, refl, false, arith, ℕ, List, [], ◌∷◌, ◌++◌, length, map, vec_len, sym, ap, ◌∙◌, subst}
-use Rattle.std.proofs.lemmas.List.{length-map, nil_from_length}
-use Rattle.std.specs.Sync.RwLock.{write_guard_value}
-use Rattle.live_log.specs.Log.{Log, chain_note, record_of}
-use Rattle.live_log.specs.Tables.{tabled}
-use Rattle.live_log.proofs.Lemmas.{begins_trans}
-use Rattle.rcu_list.specs.live_rule.declared.view.Look.{Look}
-use Rattle.rcu_list.specs.live_table.Rights.{cell_in}
-use Rattle.rcu_list.specs.live_read.Hearing.{MakesMany}
-use Rattle.rcu_list.proofs.live_read.Lemmas.{more_made, none_made}
-use Rattle.rcu_hash.specs.Copies.{value_in_bucket}
-use Rattle.rcu_hash.specs.Directories.{buckets_in}
-use Rattle.rcu_hash.specs.Growing.{Grows}
-use Rattle.rcu_hash.specs.Refusing.{IsUnused}
-use Rattle.rcu_hash.specs.Tables.{IsAmong, are_apart}
-use Rattle.rcu_hash.specs.Tidying.{IsLinked, IsTidied}
-use Rattle.rcu_hash.specs.declared.directory.Naming.{Naming}
-use Rattle.rcu_hash.proofs.Regrown.{grows_go, grows_since}
-use Rattle.rcu_hash.proofs.Taking.{during_earlier, during_since, in_both, taken_since}
-use Rattle.rcu_hash.proofs.Tidied.{rest_none, some_there}
+use Rattle.rcu_hash.proofs.Cited.{begins_trans, Log, Begins, chain_note, record_of, tabled, value_in_bucket, buckets_in, Grows, IsUnused, IsAmong, are_apart, IsLinked, IsTidied, Naming, more_made, none_made, MakesMany, Look, cell_in, ◌≡◌, ℕ, ◌+◌, [], ◌∷◌, ◌∙◌, ◌≢◌, ◌<◌, ◌++◌, List, length, refl, sym, ap, subst, inl, inr, arith, false, map, ⊎_elim, vec_len, rules, length-map, nil_from_length, write_guard_value, grows_since, grows_go, during_since, during_earlier, taken_since, in_both, rest_none, some_there}
 use Rattle.rcu_hash.proofs.table.RcuHash.grow_over.Goals as goal
 
 pub commit-left-requires-clause-copied : goal.commit-left-requires-clause-copied
 commit-left-requires-clause-copied g c =
     let e = c.in-Ok.ensures.copied in let same = c.deref.ensures ∙ sym c.deref_mut.ensures.value in
     (λ key. e.0 key ∙ (λ i. value_in_bucket (same i).naming.buckets (map (λ b. b.chain.seat.me.0) c.in-Ok.growth.taken.items) key), e.1, e.2)
-
-pub returns-clause-grown : goal.returns-clause-grown
-returns-clause-grown g c =
-    let q = g.P.GracePlan.QSBR in let w = g.W.Caller in let w0 = c.args.caller.now in let wt = c.tell-left.new.caller in let w1 = c.ready.new.caller in let log : Log = w.heard c.commit-left.new.caller in
-    let chains = g.B.Site.sizes.chains in let growth = c.in-Ok.growth in let e = c.in-Ok.ensures in let t = c.tell-left.ensures in let first = c.args.first in
-    let entries : List (ℕ × ℕ) = map (λ y. (y.key, y.value)) growth.copied.items in
-    let size = c.deref_mut.result.now.naming.buckets in let all = c.commit-left.ensures.same.0 in
-    let directory : c.deref_mut.result.now.naming.directory ≡ c.args.self.now.directory = (λ i. (c.deref_mut.ensures.value i).naming.directory) ∙ (ap (λ (m : Naming). m.directory) c.own_array-array.ensures ∙ c.requires) in
-    let grown : (k : Grows q tabled chains c.args.self.now.directory (w.seen w0) (w.heard w0) first c.args.buckets entries log) × (buckets_in (record_of k.left k.old) ≡ size) =
-    subst (λ (d : ℕ). (k : Grows q tabled chains d (w.seen w0) (w.heard w0) first c.args.buckets entries log) × (buckets_in (record_of k.left k.old) ≡ size)) directory
-    (subst (λ (n : ℕ). (k : Grows q tabled chains c.deref_mut.result.now.naming.directory (w.seen w0) (w.heard w0) first n entries log) × (buckets_in (record_of k.left k.old) ≡ size)) e.chains.0
-    (grows_since q tabled chains c.deref_mut.result.now.naming.directory first (vec_len growth.chains) entries log (w.seen w0) (w.heard w0) (w.seen w1) (w.heard w1) size (e.same.0 ∙ t.same.0.0.0) (begins_trans (w.heard w0) (w.heard wt) (w.heard w1) t.heard.after_heard e.heard) c.commit-left.ensures.grown.0 c.commit-left.ensures.grown.1)) in
-    let many : vec_len growth.copied ≡ length entries = growth.copied.ok.0 ∙ sym (length-map growth.copied.items (λ y. (y.key, y.value))) in
-    let count : 0 + 0 + (vec_len growth.copied + vec_len growth.chains + size + 1) ≡ length entries + c.args.buckets + buckets_in (record_of grown.0.left grown.0.old) + 1 = let chains_are = e.chains.0 in let olds = grown.1 in omega arith in (
-      entries,
-      grown.0,
-      ap (λ (n : ℕ). n + 1) (c.len-many.ensures ∙ many),
-      search rules,
-      subst (MakesMany w w0 c.commit-left.new.caller) count
-          (more_made w w0 w1 c.commit-left.new.caller (0 + 0) (vec_len growth.copied + vec_len growth.chains + size + 1)
-          (more_made w w0 wt w1 0 0 (none_made w w0 wt t.same.0.0) (none_made w wt w1 e.same)) all),
-    )
 
 -- nothing was left when the caller heard of what is
 pub commit-left-requires-clause-tidied : goal.commit-left-requires-clause-tidied
@@ -59,32 +18,6 @@ commit-left-requires-clause-tidied g c =
       subst (λ (m : Naming). IsTidied m.directory log) (sym same)
           (rest_none l.naming.directory l.naming.object _ _ log (ap (map (λ x. x.seat.me.0)) empty) (λ p is. let some = l.some (some_there _ l.unlinked p is) in let none = c.if-len-ne0.false in let len = c.len.ensures in absurd (omega (arith, some, none, len))) t.rest),
     )
-
-pub returns-clause-heard : goal.returns-clause-heard
-returns-clause-heard g c =
-    let w = g.W.Caller in let w0 = c.args.caller.now in let wt = c.tell-left.new.caller in let w1 = c.ready.new.caller in let log : Log = w.heard c.commit-left.new.caller in let growth = c.in-Ok.growth in
-    let entries : List (ℕ × ℕ) = map (λ y. (y.key, y.value)) growth.copied.items in
-    begins_trans (w.heard w0) (w.heard wt) log c.tell-left.ensures.heard.after_heard (begins_trans (w.heard wt) (w.heard w1) log c.ready.ensures.heard (grows_go g.P.GracePlan.QSBR tabled g.B.Site.sizes.chains c.deref_mut.result.now.naming.directory c.args.first (vec_len growth.chains) entries log (w.seen w1) (w.heard w1) c.commit-left.ensures.grown.0))
-
-pub returns-clause-tidied : goal.returns-clause-tidied
-returns-clause-tidied g c =
-    let w = g.W.Caller in let wt = c.tell-left.new.caller in let w1 = c.ready.new.caller in let log : Log = w.heard c.commit-left.new.caller in let growth = c.in-Ok.growth in let t = c.tell-left.ensures in let l = c.args.left in
-    let entries : List (ℕ × ℕ) = map (λ y. (y.key, y.value)) growth.copied.items in
-    let empty : l.chains.items ≡ [] = nil_from_length l.chains.items (let none = c.if-len-ne0.false in let len = c.len.ensures in let ok = l.chains.ok.0 in omega arith) in record {
-      at = w.heard wt;
-      after = t.heard;
-      before = begins_trans (w.heard wt) (w.heard w1) log c.ready.ensures.heard (grows_go g.P.GracePlan.QSBR tabled g.B.Site.sizes.chains c.deref_mut.result.now.naming.directory c.args.first (vec_len growth.chains) entries log (w.seen w1) (w.heard w1) c.commit-left.ensures.grown.0);
-      so = subst (λ (d : ℕ). IsTidied d (w.heard wt)) c.requires
-          (rest_none l.naming.directory l.naming.object _ _ (w.heard wt) (ap (map (λ x. x.seat.me.0)) empty) (λ p is. let some = l.some (some_there _ l.unlinked p is) in let none = c.if-len-ne0.false in let len = c.len.ensures in absurd (omega (arith, some, none, len))) t.rest);
-    }
-
-pub returns-clause-free : goal.returns-clause-free
-returns-clause-free g c chain among =
-    let q = g.P.GracePlan.QSBR in let w = g.W.Caller in let w0 = c.args.caller.now in let wt = c.tell-left.new.caller in let w1 = c.ready.new.caller in let w2 = c.commit-left.new.caller in let growth = c.in-Ok.growth in let t = c.tell-left.ensures in
-    let entries : List (ℕ × ℕ) = map (λ y. (y.key, y.value)) growth.copied.items in
-    during_earlier w q tabled w0 w1 w2 (IsUnused chain)
-    (grows_go q tabled g.B.Site.sizes.chains c.deref_mut.result.now.naming.directory c.args.first (vec_len growth.chains) entries (w.heard w2) (w.seen w1) (w.heard w1) c.commit-left.ensures.grown.0)
-    (during_since w q tabled w0 wt w1 (IsUnused chain) t.same.0.0.0 t.heard.after_heard (c.in-Ok.ensures.free chain among))
 
 -- a new chain was taken, or is one of the table's own, which have notes
 pub returns-in-Err-clause-refused : goal.returns-in-Err-clause-refused
@@ -109,20 +42,6 @@ returns-then-not-are_apart-clause-refused g c =
     let noted : chain_note both.0 log ≢ 0 = h.noted both.0 both.1 in
     inr (inl (refl, inr (record { chain = both.0; one = both.2; found = []; looks = h.same.0.1; why = inr (record { at = log; after = h.heard; before = ([], refl); so = inr noted }) })))
 
--- a refused growth keeps no record, and an accepted one as many as it leaves for `tidy`
-pub returns-clause-looks : goal.returns-clause-looks
-returns-clause-looks g c =
-    let growth = c.in-Ok.growth in let r = c.in-Ok.ensures.looks in (
-      r.0,
-      c.commit-left.ensures.same.1 ∙ (r.1 ∙ ap (λ (l : List Look). r.0 ++ l) c.tell-left.ensures.same.0.1),
-      (
-        cell_in growth.owned.seat.me.0.object ∷ map (λ x. cell_in x.owned.seat.me.0.object) growth.copied.items,
-        let many = length-map growth.copied.items (λ x. cell_in x.owned.seat.me.0.object) in let len = c.len-many.ensures in let ok = growth.copied.ok.0 in omega arith,
-        r.2,
-      ),
-      tt,
-    )
-
 pub returns-then-len-ne0-clause-looks : goal.returns-then-len-ne0-clause-looks
 returns-then-len-ne0-clause-looks g c = ([], c.hear.ensures.same.0.0.1, tt, (λ full. cc, λ i. tt))
 
@@ -130,4 +49,51 @@ pub returns-then-not-are_apart-clause-looks : goal.returns-then-not-are_apart-cl
 returns-then-not-are_apart-clause-looks g c = ([], c.hear-then-not-are_apart.ensures.same.0.1, tt, (λ full. cc, λ i. tt))
 
 pub invariant_of-left : goal.invariant_of-left
-invariant_of-left g c = let l = c.tell-left.result in record { some = l.some; alone = l.alone; keys = l.keys; notes = l.notes; replaced = l.replaced; outside = l.outside; rest = l.rest }
+invariant_of-left g c = let l = c.tell-left.result in record { some = l.some; left = l.left; replaced = l.replaced; rest = l.rest }
+
+pub returns : goal.returns
+returns g c =
+    let q = g.P.GracePlan.QSBR in let w = g.W.Caller in let w0 = c.args.caller.now in let wt = c.tell-left.new.caller in let w1 = c.ready.new.caller in let w2 = c.commit-left.new.caller in let log : Log = w.heard w2 in let chains = g.B.Site.sizes.chains in
+    let growth = c.in-Ok.growth in let e = c.in-Ok.ensures in let t = c.tell-left.ensures in let l = c.args.left in let m = c.commit-left.ensures in let first = c.args.first in let size = c.deref_mut.result.now.naming.buckets in let d = c.deref_mut.result.now.naming.directory in let own = c.args.self.now.directory in
+    let entries : List (ℕ × ℕ) = map (λ y. (y.key, y.value)) growth.copied.items in
+    let goes : Begins (w.heard w1) log = grows_go q tabled chains d first (vec_len growth.chains) entries log (w.seen w1) (w.heard w1) m.grown.0 in let since : Begins (w.heard wt) log = begins_trans (w.heard wt) (w.heard w1) log e.heard goes in
+    let loads = m.same.2 ∙ (e.loads.1 ∙ t.same.1) in
+    let directory : d ≡ own = (λ i. (c.deref_mut.ensures.value i).naming.directory) ∙ (ap (λ (n : Naming). n.directory) c.own_array-array.ensures ∙ c.requires) in
+    let grown : (k : Grows q tabled chains own (w.seen w0) (w.heard w0) first c.args.buckets entries log) × (buckets_in (record_of k.left k.old) ≡ size) =
+    subst (λ (n : ℕ). (k : Grows q tabled chains n (w.seen w0) (w.heard w0) first c.args.buckets entries log) × (buckets_in (record_of k.left k.old) ≡ size)) directory
+    (subst (λ (n : ℕ). (k : Grows q tabled chains d (w.seen w0) (w.heard w0) first n entries log) × (buckets_in (record_of k.left k.old) ≡ size)) e.chains.0
+    (grows_since q tabled chains d first (vec_len growth.chains) entries log (w.seen w0) (w.heard w0) (w.seen w1) (w.heard w1) size (e.same.0 ∙ t.same.0.0.0) (begins_trans (w.heard w0) (w.heard wt) (w.heard w1) t.heard.after_heard e.heard) m.grown.0 m.grown.1)) in
+    let many : vec_len growth.copied ≡ length entries = growth.copied.ok.0 ∙ sym (length-map growth.copied.items (λ y. (y.key, y.value))) in
+    let count : 0 + 0 + (vec_len growth.copied + vec_len growth.chains + size + 1) ≡ length entries + c.args.buckets + buckets_in (record_of grown.0.left grown.0.old) + 1 = let chains_are = e.chains.0 in let olds = grown.1 in omega arith in
+    let empty : l.chains.items ≡ [] = nil_from_length l.chains.items (let none = c.if-len-ne0.false in let len = c.len.ensures in let ok = l.chains.ok.0 in omega arith) in record {
+      grown = (
+        entries,
+        grown.0,
+        ap (λ (n : ℕ). n + 1) (c.len-many.ensures ∙ many),
+        search rules,
+        subst (MakesMany w w0 w2) count (more_made w w0 w1 w2 (0 + 0) (vec_len growth.copied + vec_len growth.chains + size + 1) (more_made w w0 wt w1 0 0 (none_made w w0 wt t.same.0.0) (none_made w wt w1 e.same)) m.same.0),
+      );
+      tidied = record {
+        at = w.heard wt;
+        after = t.heard;
+        before = since;
+        so = subst (λ (n : ℕ). IsTidied n (w.heard wt)) c.requires
+            (rest_none l.naming.directory l.naming.object _ _ (w.heard wt) (ap (map (λ x. x.seat.me.0)) empty) (λ p is. let some = l.some (some_there _ l.unlinked p is) in let none = c.if-len-ne0.false in let len = c.len.ensures in absurd (omega (arith, some, none, len))) t.rest);
+      };
+      free = λ chain among. during_earlier w q tabled w0 w1 w2 (IsUnused chain) goes (during_since w q tabled w0 wt w1 (IsUnused chain) t.same.0.0.0 t.heard.after_heard (e.free chain among));
+      refused = tt;
+      heard = begins_trans (w.heard w0) (w.heard wt) log t.heard.after_heard since;
+      -- it keeps as many records as it leaves for `tidy`
+      looks = (
+        e.looks.0,
+        m.same.1 ∙ (e.looks.1 ∙ ap (λ (z : List Look). e.looks.0 ++ z) t.same.0.1),
+        (
+          cell_in growth.owned.seat.me.0.object ∷ map (λ x. cell_in x.owned.seat.me.0.object) growth.copied.items,
+          let cells = length-map growth.copied.items (λ x. cell_in x.owned.seat.me.0.object) in let len = c.len-many.ensures in let ok = growth.copied.ok.0 in omega arith,
+          e.looks.2,
+        ),
+        tt,
+      );
+      loads = (([], loads), loads);
+      changes = tt;
+    }

@@ -1,48 +1,9 @@
-use Rattle.std.proofs.Common.{rules, ◌≡◌, ◌⊎◌, ◌+◌, ◌<◌, ◌≤◌, ◌++◌, ℕ, [], ◌∷◌, None, Some, inl, inr, ⊎_elim, arith, vec_len, map, refl, sym, ap, ◌∙◌, subst}
-use Rattle.std.proofs.lemmas.Result.{err_from_is_err_and}
-use Rattle.rcu_model.specs.declared.refusal.Refusal.TheVariants.{BadConfig, Memory}
-use Rattle.live_log.specs.declared.event.LiveEvent.TheVariants.{Object}
-use Rattle.live_log.specs.declared.event.ObjectEvent.TheVariants.{Push}
-use Rattle.live_log.specs.Log.{Log, Begins}
-use Rattle.live_log.specs.Tables.{reserved, tabled}
-use Rattle.live_log.proofs.Lemmas.{begins_trans}
-use Rattle.rcu_list.specs.live_rule.declared.view.Look.TheVariants.{Loaded, Stored}
-use Rattle.rcu_list.specs.live_rule.Places.{hold_at}
-use Rattle.rcu_list.specs.live_table.Rights.{cell_in, object_in, payload_in}
-use Rattle.rcu_hash.specs.Directories.{LeadsTo, directed_map}
-use Rattle.rcu_list.specs.live_read.Hearing.{IsAfter, MakesMany}
-use Rattle.rcu_list.proofs.live_read.Lemmas.{more_made, none_made, one_made}
-use Rattle.rcu_hash.specs.Growing.{Founds, NotesAll}
-use Rattle.rcu_hash.specs.Leaving.{Writes}
-use Rattle.rcu_hash.specs.Naming.{words_by}
-use Rattle.rcu_hash.specs.Refusing.{IsUnused}
-use Rattle.rcu_hash.specs.Tables.{IsAmong, bucket_of}
-use Rattle.rcu_hash.specs.Tidying.{IsLinked, IsRest, LeavesOnly}
-use Rattle.rcu_hash.specs.Writers.{Each, HasNoNote, HasNote, HasNothing, IsEmpty}
-use Rattle.rcu_hash.proofs.Emptying.{writes_weaker}
-use Rattle.rcu_hash.proofs.Filling.{notes_weaker}
-use Rattle.rcu_hash.proofs.Freeing.{but_after, frees_both, keeps_none, keeps_one, none_after, not_full}
-use Rattle.rcu_hash.proofs.Holds.{each_map, looks_both, pair_from, pair_nothing}
-use Rattle.rcu_hash.proofs.Taking.{during_earlier, during_since, place_of, taken_since}
-use Rattle.rcu_hash.proofs.Tidied.{linked_by, only_none, only_weaker}
-use Rattle.rcu_hash.specs.declared.directory.Naming.{Naming}
+use Rattle.rcu_hash.proofs.Cited.{begins_trans, Log, Begins, reserved, tabled, Object, Push, directed_map, LeadsTo, NotesAll, Founds, Writes, words_by, IsUnused, IsAmong, bucket_of, IsRest, LeavesOnly, IsLinked, Each, HasNote, HasNoNote, IsEmpty, HasNothing, Naming, more_made, none_made, one_made, MakesMany, IsAfter, hold_at, Stored, Loaded, cell_in, object_in, payload_in, none_some, BadConfig, Memory, ◌≡◌, ℕ, ◌+◌, ◌≤◌, [], ◌∷◌, ◌∙◌, ◌⊎◌, ◌<◌, ◌++◌, refl, sym, ap, subst, inl, inr, arith, Some, None, map, ⊎_elim, vec_len, rules, err_from_is_err_and, writes_weaker, notes_weaker, looks_both, each_map, pair_from, pair_nothing, during_since, during_earlier, taken_since, place_of, frees_both, but_after, none_after, keeps_one, keeps_none, not_full, only_weaker, only_none, linked_by}
 use Rattle.rcu_hash.proofs.table.RcuHash.new.Goals as goal
 
 pub returns-in_err-chains-clause-looks : goal.returns-in_err-chains-clause-looks
 returns-in_err-chains-clause-looks g c = let p = err_from_is_err_and c.from_residual-in_err-chains.result c.from_residual-in_err-chains.ensures.1 in let m = c.in_err-chains.ensures.refused in
     let none = not_full g.B.Site.sizes _ [] c.from_residual-in_err-chains.result p.0 Memory p.1 (p.2 ∙ m) (λ z. cc) (λ i. tt) in ([], refl, none.0, none.1)
-
-pub returns-in_err-noted-clause-looks : goal.returns-in_err-noted-clause-looks
-returns-in_err-noted-clause-looks g c = let p = err_from_is_err_and c.from_residual-in_err-noted.result c.from_residual-in_err-noted.ensures.1 in let m = c.in_err-noted.ensures.refused in
-    let none = not_full g.B.Site.sizes _ [] c.from_residual-in_err-noted.result p.0 Memory p.1 (p.2 ∙ m) (λ z. cc) (λ i. tt) in ([], refl, none.0, none.1)
-
-pub returns-in_err-back-clause-looks : goal.returns-in_err-back-clause-looks
-returns-in_err-back-clause-looks g c = let p = err_from_is_err_and c.from_residual-in_err-back.result c.from_residual-in_err-back.ensures.1 in let m = c.in_err-back.ensures.refused in
-    let none = not_full g.B.Site.sizes _ [] c.from_residual-in_err-back.result p.0 Memory p.1 (p.2 ∙ m) (λ z. cc) (λ i. tt) in ([], refl, none.0, none.1)
-
-pub returns-in_err-places-clause-looks : goal.returns-in_err-places-clause-looks
-returns-in_err-places-clause-looks g c = let p = err_from_is_err_and c.from_residual-in_err-places.result c.from_residual-in_err-places.ensures.1 in let m = c.in_err-places.ensures.refused in
-    let none = not_full g.B.Site.sizes _ [] c.from_residual-in_err-places.result p.0 Memory p.1 (p.2 ∙ m) (λ z. cc) (λ i. tt) in ([], refl, none.0, none.1)
 
 pub returns-in_err-own-clause-looks : goal.returns-in_err-own-clause-looks
 returns-in_err-own-clause-looks g c =
@@ -70,15 +31,6 @@ returns-in-Err-clause-looks g c =
 -- what the caller hears of in a call that is refused comes after all that it had heard of
 pub returns-in_err-chains-clause-later : goal.returns-in_err-chains-clause-later
 returns-in_err-chains-clause-later g c = ([], refl)
-
-pub returns-in_err-noted-clause-later : goal.returns-in_err-noted-clause-later
-returns-in_err-noted-clause-later g c = ([], refl)
-
-pub returns-in_err-back-clause-later : goal.returns-in_err-back-clause-later
-returns-in_err-back-clause-later g c = ([], refl)
-
-pub returns-in_err-places-clause-later : goal.returns-in_err-places-clause-later
-returns-in_err-places-clause-later g c = ([], refl)
 
 pub returns-in_err-own-clause-later : goal.returns-in_err-own-clause-later
 returns-in_err-own-clause-later g c = c.hold_empty.ensures.heard.after_heard
@@ -113,87 +65,62 @@ pub direct-writer-requires-clause-record : goal.direct-writer-requires-clause-re
 direct-writer-requires-clause-record g c =
     ap payload_in c.reserve_all-owned.ensures.owned ∙ (c.in-Ok.ensures.owned.0 ∙ ap (words_by c.args.first) (sym (c.reserve_all-owned.ensures.kept.0 ∙ c.in_ok-chains-2.ensures.held.0)))
 
-pub returns-clause-changes : goal.returns-clause-changes
-returns-clause-changes g c =
-    let w = g.W.Caller in let w0 = c.args.caller.now in let w1 = c.hold_empty.new.caller in let w2 = c.hold_all.new.caller in let w3 = c.alloc.new.caller in let w4 = c.reserve_all-owned.new.caller in let w5 = c.direct-writer.new.caller in let w6 = c.split.new.caller in
-    let many = vec_len c.in_ok-chains-2.chains in let size = c.in_ok-chains-2.ensures.held.0 in let count : 0 + 0 + 0 + many + 1 + 0 ≡ c.args.buckets + 1 = omega arith in (
-      subst (MakesMany w w0 w6) count (more_made w w0 w5 w6 (0 + 0 + 0 + many + 1) 0
-          (more_made w w0 w4 w5 (0 + 0 + 0 + many) 1
-          (more_made w w0 w3 w4 (0 + 0 + 0) many
-          (more_made w w0 w2 w3 (0 + 0) 0 (more_made w w0 w1 w2 0 0 (none_made w w0 w1 c.hold_empty.ensures.same.0) (none_made w w1 w2 c.hold_all.ensures.same.0)) (none_made w w2 w3 c.alloc.ensures.same.0)) c.reserve_all-owned.ensures.same.0)
-          (one_made w w4 w5 (w.heard w5) c.direct-writer.ensures.same.0))
-          (none_made w w5 w6 c.split.ensures.same.0.0.0)),
-      tt,
-    )
-
-pub returns-clause-map : goal.returns-clause-map
-returns-clause-map g c key =
-    let h = c.in_ok-chains-2.ensures.held in let n = c.reserve_all-owned.ensures.kept in let own = c.in_ok-own.ensures.held in let chains = g.B.Site.sizes.chains in let log : Log = g.W.Caller.heard c.direct-writer.new.caller in
-    subst (λ (l : Log). (directed_map chains c.args.directory l key ≡ None) × LeadsTo c.args.directory l key (bucket_of c.args.first c.args.buckets key)) (sym c.split.ensures.same.1)
-    (subst (λ (d : ℕ). (directed_map chains d log key ≡ None) × LeadsTo d log key (bucket_of c.args.first c.args.buckets key)) own.0
-    (subst (λ (k : ℕ). (directed_map chains c.in_ok-own.own.number log key ≡ None) × LeadsTo c.in_ok-own.own.number log key (bucket_of c.args.first k key)) (n.0 ∙ h.0) (c.direct-writer.ensures.map key)))
-
-pub returns-clause-heard : goal.returns-clause-heard
-returns-clause-heard g c =
-    let w = g.W.Caller in let w0 = c.args.caller.now in let w1 = c.hold_empty.new.caller in let w2 = c.hold_all.new.caller in let w3 = c.alloc.new.caller in let w4 = c.reserve_all-owned.new.caller in let w5 = c.direct-writer.new.caller in
-    let a = c.hold_empty.ensures in let b = c.hold_all.ensures in let o = c.alloc.ensures in let n = c.reserve_all-owned.ensures in let d = c.direct-writer.ensures.heard in
-    subst (IsAfter g.P.GracePlan.QSBR tabled (w.seen w0) (w.heard w0)) (sym c.split.ensures.same.1) (record {
-      after_seen = subst (λ (l : Log). Begins l (w.heard w5)) (n.same.0.made.0 ∙ (o.same.0.0 ∙ (b.same.0.0 ∙ a.same.0.0))) d.after_seen;
-      after_heard = begins_trans (w.heard w0) (w.heard w1) (w.heard w5) a.heard.after_heard (begins_trans (w.heard w1) (w.heard w2) (w.heard w5) b.heard (begins_trans (w.heard w2) (w.heard w3) (w.heard w5) o.heard.after_heard (begins_trans (w.heard w3) (w.heard w4) (w.heard w5) n.heard d.after_heard)));
-      run = d.run;
-    })
-
-pub returns-clause-later : goal.returns-clause-later
-returns-clause-later g c = (returns-clause-heard g c).after_heard
-
-pub returns-clause-looks : goal.returns-clause-looks
-returns-clause-looks g c =
-    let w = g.W.Caller in let one = c.hold_empty.ensures.same.2 in let two = c.hold_all.ensures.same.2 in let three = c.in-Ok.ensures.took in let n = c.reserve_all-owned.ensures.same in let d = c.direct-writer.ensures.same in let cell = cell_in c.in-Ok.owned.seat.me.0.object in
-    let held = looks_both (w.looks c.args.caller.now) (w.looks c.hold_empty.new.caller) (w.looks c.hold_all.new.caller) one.0 two.0 one.1 two.1 in (
-      three.0 ++ (two.0 ++ one.0),
-      c.split.ensures.same.0.0.1 ∙ (d.1 ∙ (n.1 ∙ looks_both (w.looks c.args.caller.now) (w.looks c.hold_all.new.caller) (w.looks c.alloc.new.caller) (two.0 ++ one.0) three.0 held three.1)),
-      (cell ∷ [], refl, but_after g.B.Site.sizes (two.0 ++ one.0) three.0 (cell ∷ []) (frees_both g.B.Site.sizes one.0 two.0 one.2 two.2) (keeps_one g.B.Site.sizes cell (object_in c.in-Ok.owned.seat.me.0.object).0 three.0 three.2)),
-      tt,
-    )
-
--- the directory's chain was unused once it was held, and then each bucket's
-pub returns-clause-free : goal.returns-clause-free
-returns-clause-free g c chain one =
-    let q = g.P.GracePlan.QSBR in let w = g.W.Caller in let w0 = c.args.caller.now in let w1 = c.hold_empty.new.caller in let w2 = c.hold_all.new.caller in let w3 = c.alloc.new.caller in let w4 = c.reserve_all-owned.new.caller in let w5 = c.split.new.caller in let z5 : Log = w.heard c.direct-writer.new.caller in
-    let a = c.hold_empty.ensures in
-    let goes : Begins (w.heard w2) (w.heard w5) = subst (Begins (w.heard w2)) (sym c.split.ensures.same.1) (begins_trans (w.heard w2) (w.heard w3) z5 c.alloc.ensures.heard.after_heard (begins_trans (w.heard w3) (w.heard w4) z5 c.reserve_all-owned.ensures.heard c.direct-writer.ensures.heard.after_heard)) in
-    ⊎_elim
-    (λ (is : chain ≡ c.args.directory). record {
-      at = w.heard w1;
-      after = a.heard;
-      before = begins_trans (w.heard w1) (w.heard w2) (w.heard w5) c.hold_all.ensures.heard goes;
-      so = subst (λ (k : ℕ). IsUnused k (w.heard w1)) (sym is) c.in_ok-own.ensures.unused;
-    })
-    (λ (among : IsAmong c.args.first c.args.buckets chain). during_since w q tabled w0 w1 w5 (IsUnused chain) a.same.0.0 a.heard.after_heard
-    (during_earlier w q tabled w1 w2 w5 (IsUnused chain) goes (c.in_ok-chains-2.ensures.free chain among)))
-    one
-
 -- each bucket got its note, and then the directory came
-pub returns-clause-founded : goal.returns-clause-founded
-returns-clause-founded g c =
-    let q = g.P.GracePlan.QSBR in let w = g.W.Caller in let w0 = c.args.caller.now in let w1 = c.hold_empty.new.caller in let w2 = c.hold_all.new.caller in let w3 = c.alloc.new.caller in let w4 = c.reserve_all-owned.new.caller in let w5 = c.direct-writer.new.caller in
-    let a = c.hold_empty.ensures in let b = c.hold_all.ensures in let o = c.alloc.ensures in let n = c.reserve_all-owned.ensures in let d = c.direct-writer.ensures.pushed in let h = c.in_ok-chains-2.ensures.held in let own = c.in_ok-own.ensures.held.0 in
-    let first = c.args.first in let directory = c.args.directory in let many = c.args.buckets in let object = object_in c.in-Ok.owned.seat.me.0.object in let its = object_in c.reserve_all-owned.result.0.seat.me.0.object in
+pub returns : goal.returns
+returns g c =
+    let q = g.P.GracePlan.QSBR in let w = g.W.Caller in let sizes = g.B.Site.sizes in let w0 = c.args.caller.now in let w1 = c.hold_empty.new.caller in let w2 = c.hold_all.new.caller in let w3 = c.alloc.new.caller in let w4 = c.reserve_all-owned.new.caller in let w5 = c.direct-writer.new.caller in let w6 = c.split.new.caller in
+    let a = c.hold_empty.ensures in let b = c.hold_all.ensures in let o = c.alloc.ensures in let n = c.reserve_all-owned.ensures in let d = c.direct-writer.ensures in let h = c.in_ok-chains-2.ensures.held in let own = c.in_ok-own.ensures.held.0 in let split = c.split.ensures.same in let last = sym split.1 in
+    let first = c.args.first in let directory = c.args.directory in let many = c.args.buckets in let object = object_in c.in-Ok.owned.seat.me.0.object in let its = object_in c.reserve_all-owned.result.0.seat.me.0.object in let cell = cell_in c.in-Ok.owned.seat.me.0.object in let log : Log = w.heard w5 in
+    let one = a.same.2 in let two = b.same.2 in let three = c.in-Ok.ensures.took in let size = n.kept.0 ∙ h.0 in
     let seen : w.seen w3 ≡ w.seen w0 = o.same.0.0 ∙ (b.same.0.0 ∙ a.same.0.0) in
     let heard : Begins (w.heard w0) (w.heard w3) = begins_trans (w.heard w0) (w.heard w1) (w.heard w3) a.heard.after_heard (begins_trans (w.heard w1) (w.heard w2) (w.heard w3) b.heard o.heard.after_heard) in
+    let until : Begins (w.heard w3) log = begins_trans (w.heard w3) (w.heard w4) log n.heard d.heard.after_heard in
+    let goes : Begins (w.heard w2) (w.heard w6) = subst (Begins (w.heard w2)) last (begins_trans (w.heard w2) (w.heard w3) log o.heard.after_heard until) in
+    let after = subst (IsAfter q tabled (w.seen w0) (w.heard w0)) last (record { after_seen = subst (λ (l : Log). Begins l log) (n.same.0.made.0 ∙ seen) d.heard.after_seen; after_heard = begins_trans (w.heard w0) (w.heard w3) log heard until; run = d.heard.run }) in
+    let held = looks_both (w.looks w0) (w.looks w1) (w.looks w2) one.0 two.0 one.1 two.1 in
     let told : NotesAll (Writes q tabled (w.seen w0)) (reserved object) first many (w.heard w3) (w.heard w4) =
     subst (λ (k : ℕ). NotesAll (Writes q tabled (w.seen w0)) (reserved object) first k (w.heard w3) (w.heard w4)) h.0
     (subst (λ (s : Log). NotesAll (Writes q tabled s) (reserved object) first (vec_len c.in_ok-chains-2.chains) (w.heard w3) (w.heard w4)) seen (n.told first h.1)) in
-    subst (Founds q tabled directory (w.seen w0) (w.heard w0) first many) (sym c.split.ensures.same.1) (record {
-      noted = w.heard w4;
-      object = object;
-      cell = d.0;
-      notes = notes_weaker (Writes q tabled (w.seen w0)) (writes_weaker q tabled (w.seen w0)) (reserved object) first many (w.heard w0) (w.heard w3) (w.heard w4) heard told;
-      pushed = subst (λ r. Writes q tabled (w.seen w0) (w.heard w4) (Object (Push directory (object_in r) d.0 (words_by first many))) (w.heard w5)) n.owned
-          (subst (λ (s : Log). Writes q tabled s (w.heard w4) (Object (Push directory its d.0 (words_by first many))) (w.heard w5)) (n.same.0.made.0 ∙ seen)
-          (subst (λ (k : ℕ). Writes q tabled (w.seen w4) (w.heard w4) (Object (Push k its d.0 (words_by first many))) (w.heard w5)) own
-          (subst (λ (k : ℕ). Writes q tabled (w.seen w4) (w.heard w4) (Object (Push c.in_ok-own.own.number its d.0 (words_by first k))) (w.heard w5)) (n.kept.0 ∙ h.0) d.1)));
-    })
+    let size0 = vec_len c.in_ok-chains-2.chains in let size_is = h.0 in let count : 0 + 0 + 0 + size0 + 1 + 0 ≡ many + 1 = omega arith in record {
+      made = (refl, search rules);
+      founded = subst (Founds q tabled directory (w.seen w0) (w.heard w0) first many) last (record {
+        noted = w.heard w4;
+        object = object;
+        cell = d.pushed.0;
+        notes = notes_weaker (Writes q tabled (w.seen w0)) (writes_weaker q tabled (w.seen w0)) (reserved object) first many (w.heard w0) (w.heard w3) (w.heard w4) heard told;
+        pushed = subst (λ r. Writes q tabled (w.seen w0) (w.heard w4) (Object (Push directory (object_in r) d.pushed.0 (words_by first many))) log) n.owned
+            (subst (λ (s : Log). Writes q tabled s (w.heard w4) (Object (Push directory its d.pushed.0 (words_by first many))) log) (n.same.0.made.0 ∙ seen)
+            (subst (λ (k : ℕ). Writes q tabled (w.seen w4) (w.heard w4) (Object (Push k its d.pushed.0 (words_by first many))) log) own
+            (subst (λ (k : ℕ). Writes q tabled (w.seen w4) (w.heard w4) (Object (Push c.in_ok-own.own.number its d.pushed.0 (words_by first k))) log) size d.pushed.1)));
+      });
+      -- the directory's chain was unused once it was held, and then each bucket's
+      free = λ chain among. ⊎_elim
+          (λ (is : chain ≡ directory). record { at = w.heard w1; after = a.heard; before = begins_trans (w.heard w1) (w.heard w2) (w.heard w6) b.heard goes; so = subst (λ (k : ℕ). IsUnused k (w.heard w1)) (sym is) c.in_ok-own.ensures.unused })
+          (λ (one : IsAmong first many chain). during_since w q tabled w0 w1 w6 (IsUnused chain) a.same.0.0 a.heard.after_heard (during_earlier w q tabled w1 w2 w6 (IsUnused chain) goes (c.in_ok-chains-2.ensures.free chain one)))
+          among;
+      map = λ key. subst (λ (l : Log). (directed_map sizes.chains directory l key ≡ None) × LeadsTo directory l key (bucket_of first many key)) last
+          (subst (λ (k : ℕ). (directed_map sizes.chains k log key ≡ None) × LeadsTo k log key (bucket_of first many key)) own
+          (subst (λ (k : ℕ). (directed_map sizes.chains c.in_ok-own.own.number log key ≡ None) × LeadsTo c.in_ok-own.own.number log key (bucket_of first k key)) size (d.map key)));
+      heard = after;
+      later = after.after_heard;
+      refused = tt;
+      looks = (
+        three.0 ++ (two.0 ++ one.0),
+        split.0.0.1 ∙ (d.same.1 ∙ (n.same.1 ∙ looks_both (w.looks w0) (w.looks w2) (w.looks w3) (two.0 ++ one.0) three.0 held three.1)),
+        (cell ∷ [], refl, but_after sizes (two.0 ++ one.0) three.0 (cell ∷ []) (frees_both sizes one.0 two.0 one.2 two.2) (keeps_one sizes cell (object_in c.in-Ok.owned.seat.me.0.object).0 three.0 three.2)),
+        tt,
+      );
+      changes = (
+        subst (MakesMany w w0 w6) count (more_made w w0 w5 w6 (0 + 0 + 0 + size0 + 1) 0
+            (more_made w w0 w4 w5 (0 + 0 + 0 + size0) 1
+            (more_made w w0 w3 w4 (0 + 0 + 0) size0
+            (more_made w w0 w2 w3 (0 + 0) 0 (more_made w w0 w1 w2 0 0 (none_made w w0 w1 a.same.0) (none_made w w1 w2 b.same.0)) (none_made w w2 w3 o.same.0)) n.same.0)
+            (one_made w w4 w5 log d.same.0))
+            (none_made w w5 w6 split.0.0.0)),
+        tt,
+      );
+      same = split.0.1 ∙ (d.same.2 ∙ (n.same.2 ∙ (o.same.1 ∙ (b.same.1 ∙ a.same.1))));
+    }
 
 -- the directory's chain, or a bucket's, was taken
 pub returns-in_err-own-clause-refused : goal.returns-in_err-own-clause-refused
@@ -226,10 +153,7 @@ invariant_of-left g c =
     let none = only_none g.P.GracePlan.QSBR c.in_ok-own.own.number p.before log (object_in c.reserve_all-owned.result.0.seat.me.0.object) e.pushed.0 c.args.first (vec_len c.reserve_all-owned.result.1) p.wrote p.run in
     let all = subst (λ (d : ℕ). LeavesOnly d log (λ k. ⊥) (λ o. ⊥)) (sym (ap (λ (m : Naming). m.directory) e.directory)) none in let empty : c.new.result.items ≡ [] = search rules in record {
       some = λ no. cc;
-      alone = rw empty tt;
-      keys = rw empty tt;
-      notes = rw empty tt;
+      left = rw empty tt;
       replaced = tt;
-      outside = rw empty (∣ tt ∣₁);
-      rest = rw empty (subst (IsRest n.directory n.object [] None) (sym c.split.ensures.told.1) ∣ (linked, only_weaker n.directory log (λ k. ⊥) (λ k. ⊥) (λ o. ⊥) (λ o. None ≡ Some o) (λ k no. no) (λ o no. absurd no) all) ∣₁);
+      rest = rw empty (subst (IsRest n.directory n.object [] None) (sym c.split.ensures.told.1) ∣ (linked, only_weaker n.directory log (λ k. ⊥) (λ k. ⊥) (λ o. ⊥) (λ o. None ≡ Some o) (λ k no. no) (λ o no. absurd no) all, (0, tt), λ o no. absurd (none_some o no)) ∣₁);
     }

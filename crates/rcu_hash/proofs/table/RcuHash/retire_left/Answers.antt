@@ -1,13 +1,4 @@
-use Rattle.std.proofs.Common.{◌<◌, [], IsSome, vec_len, arith, subst, refl, inl, inr, ⊎_elim}
-use Rattle.std.proofs.lemmas.Result.{err_from_is_err_and}
-use Rattle.live_log.specs.declared.event.LiveEvent.TheVariants.{Object}
-use Rattle.live_log.specs.declared.event.ObjectEvent.TheVariants.{Retire}
-use Rattle.live_log.specs.Log.{Log, Begins, Has}
-use Rattle.live_log.specs.Tables.{tabled}
-use Rattle.live_log.proofs.Lemmas.{begins_trans, has_since}
-use Rattle.rcu_hash.specs.Tidying.{Uses, WasCleared}
-use Rattle.rcu_hash.proofs.Emptying.{err_on, finds_both, heard_on, objects_some, uses_both, waited_later}
-use Rattle.rcu_hash.proofs.Tidied.{not_none}
+use Rattle.rcu_hash.proofs.Cited.{begins_trans, has_since, Log, Begins, Has, tabled, Object, Retire, Uses, WasCleared, if_ok, [], ◌<◌, refl, subst, inl, inr, arith, ⊎_elim, IsSome, vec_len, err_from_is_err_and, stopped_for, waited_later, finds_both, heard_on, uses_both, err_on, objects_some, not_none}
 use Rattle.rcu_hash.proofs.table.RcuHash.retire_left.Goals as goal
 
 pub returns-in_err-retire_record-clause-uses : goal.returns-in_err-retire_record-clause-uses
@@ -18,35 +9,6 @@ clear_all-requires-clause-waited g c =
     let w = g.W.Caller in let n = c.args.naming in
     waited_later n.directory n.object (w.heard c.args.caller.now) (w.heard c.retire_record.new.caller) c.retire_record.ensures.heard c.requires.waited
 
-pub returns-clause-chains : goal.returns-clause-chains
-returns-clause-chains g c =
-    let e = c.clear_all.ensures in let left = c.clear_all.new.chains in
-    (err_on c.clear_all.result _ (λ x. 0 < vec_len left) (λ x k. let some = objects_some left.items (λ y. y.seat.me.0) k.0 in omega (arith, some, left.ok)) e.stopped, e.chains)
-
-pub returns-clause-uses : goal.returns-clause-uses
-returns-clause-uses g c =
-    let q = g.P.GracePlan.QSBR in let w = g.W.Caller in let sizes = g.B.Site.sizes in let d = c.args.naming.directory in
-    let w0 = c.args.caller.now in let w1 = c.retire_record.new.caller in let w2 = c.clear_all.new.caller in let r = c.retire_record.ensures in let k = c.clear_all.ensures in
-    let jobs = c.args.jobs.now.items in let mid = c.retire_record.new.jobs.items in let left = c.clear_all.new.jobs.items in
-    uses_both q tabled sizes d (w.seen w0) w g.row.D.coded.code w0 w1 w2 jobs mid left (w.heard w0) (w.heard w1) (w.heard w2) (r.uses d c.requires.record)
-    (subst (λ (seen : Log). Uses q tabled sizes d seen w g.row.D.coded.code w1 w2 mid left (w.heard w1) (w.heard w2)) r.changes.0 k.uses)
-
-pub returns-clause-same : goal.returns-clause-same
-returns-clause-same g c = finds_both g.W.Caller c.args.caller.now c.retire_record.new.caller c.clear_all.new.caller c.retire_record.ensures.same c.clear_all.ensures.same
-
-pub returns-clause-told : goal.returns-clause-told
-returns-clause-told g c o is =
-    let q = g.P.GracePlan.QSBR in let w = g.W.Caller in let w1 = c.retire_record.new.caller in let w2 = c.clear_all.new.caller in let u = c.clear_all.ensures.uses in
-    let on : Begins (w.heard w1) (w.heard w2) = heard_on q tabled g.B.Site.sizes c.args.naming.directory (w.seen w1) (w.heard w1) (w.heard w1) (w.heard w2) u.steps ([], refl) u.follow in
-    ⊎_elim (λ (h : Has (Object (Retire o)) (w.heard w1)). inl (has_since (Object (Retire o)) (w.heard w1) (w.heard w2) on h)) (λ kept. inr kept) (c.retire_record.ensures.told o is)
-
-pub returns-clause-cleared : goal.returns-clause-cleared
-returns-clause-cleared g c k h =
-    let w = g.W.Caller in let w0 = c.args.caller.now in let w1 = c.retire_record.new.caller in let w2 = c.clear_all.new.caller in ⊎_elim
-    (λ (z : WasCleared (w.heard w1) k (w.heard w2)). inl (record { at = z.at; after = begins_trans (w.heard w0) (w.heard w1) z.at c.retire_record.ensures.heard z.after; before = z.before }))
-    (λ kept. inr kept)
-    (c.clear_all.ensures.cleared k h)
-
 pub returns-in_err-retire_record-clause-cleared : goal.returns-in_err-retire_record-clause-cleared
 returns-in_err-retire_record-clause-cleared g c k h = inr h
 
@@ -55,3 +17,28 @@ returns-in_err-retire_record-clause-chains g c =
     let r = c.retire_record.ensures in let p = err_from_is_err_and c.from_residual.result c.from_residual.ensures.1 in
     let there : IsSome c.retire_record.new.replaced = c.in_err-retire_record.ensures.stopped.0 in
     (rw p.1 (⊎_elim (λ none. not_none c.retire_record.new.replaced none there) (λ kept. c.requires.chains.0 (subst IsSome kept there)) r.kept), c.requires.chains.1)
+
+pub returns-in_err-retire_record-clause-stopped : goal.returns-in_err-retire_record-clause-stopped
+returns-in_err-retire_record-clause-stopped g c =
+    let p = err_from_is_err_and c.from_residual.result c.from_residual.ensures.1 in let s = c.in_err-retire_record.ensures.stopped in let d = c.args.naming.directory in
+    rw p.1 (inl s.0, stopped_for g.W.Caller c.retire_record.new.caller _ _ c.retire_record.new.jobs.items _ (λ q one. inl one) (rw p.2 (s.1 d c.requires.record)))
+
+pub returns : goal.returns
+returns g c =
+    let q = g.P.GracePlan.QSBR in let w = g.W.Caller in let code = g.row.D.coded.code in let sizes = g.B.Site.sizes in let d = c.args.naming.directory in let w0 = c.args.caller.now in let w1 = c.retire_record.new.caller in let w2 = c.clear_all.new.caller in
+    let r = c.retire_record.ensures in let e = c.clear_all.ensures in let u = e.uses in let jobs = c.args.jobs.now.items in let mid = c.retire_record.new.jobs.items in let left = c.clear_all.new.jobs.items in let chains = c.clear_all.new.chains in
+    let on : Begins (w.heard w1) (w.heard w2) = heard_on q tabled sizes d (w.seen w1) (w.heard w1) (w.heard w1) (w.heard w2) u.steps ([], refl) u.follow in record {
+      kept = r.kept;
+      told = λ o is. ⊎_elim (λ (h : Has (Object (Retire o)) (w.heard w1)). inl (has_since (Object (Retire o)) (w.heard w1) (w.heard w2) on h)) (λ kept. inr kept) (r.told o is);
+      cleared = λ k h. ⊎_elim
+          (λ (z : WasCleared (w.heard w1) k (w.heard w2)). inl (record { at = z.at; after = begins_trans (w.heard w0) (w.heard w1) z.at r.heard z.after; before = z.before }))
+          (λ kept. inr kept)
+          (e.cleared k h);
+      done = if_ok c.clear_all.result _ _ _ (λ x none z. (none, c.in_ok-retire_record.ensures.retired)) e.emptied e.emptied;
+      chains = (err_on c.clear_all.result _ (λ x. 0 < vec_len chains) (λ x k. let some = objects_some chains.items (λ y. y.seat.me.0) k.0 in omega (arith, some, chains.ok)) e.stopped, e.chains);
+      uses = uses_both q tabled sizes d (w.seen w0) w code w0 w1 w2 jobs mid left (w.heard w0) (w.heard w1) (w.heard w2) (r.uses d c.requires.record)
+          (subst (λ (seen : Log). Uses q tabled sizes d seen w code w1 w2 mid left (w.heard w1) (w.heard w2)) r.changes.0 u);
+      row = e.row;
+      stopped = err_on c.clear_all.result _ _ (λ x k. (inr k.0, stopped_for w w2 _ _ left x (λ z one. inr one) k.1)) e.stopped;
+      same = finds_both w w0 w1 w2 r.same e.same;
+    }

@@ -1,6 +1,4 @@
-use Rattle.std.proofs.Common.{◌≡◌, ◌++◌, List}
-use Rattle.live_log.specs.Log.{Begins, Log}
-use Rattle.rcu_list.specs.live_read.Hearing.{FindsNothing}
+use Rattle.rcu_hash.proofs.Cited.{Log, Begins, FindsNothing, ◌≡◌, ◌++◌, List}
 use Rattle.rcu_hash.proofs.table.RcuHash.tidy.Given as goal
 
 -- it has waited, and another thread has made the table grow meanwhile

@@ -1,11 +1,4 @@
-use Rattle.std.proofs.Common.{ℕ, [], Option, refl, ap, subst}
-use Rattle.rcu_model.specs.declared.event.ObjectId.{ObjectId}
-use Rattle.live_log.specs.Log.{Log}
-use Rattle.live_log.specs.Tables.{tabled}
-use Rattle.rcu_list.specs.live_read.Holding.{log_of}
-use Rattle.rcu_list.proofs.live_read.Lemmas.{looks_twice}
-use Rattle.rcu_hash.specs.Directories.{AnswersThrough, value_through}
-use Rattle.rcu_hash.proofs.Looking.{through_from}
+use Rattle.rcu_hash.proofs.Cited.{Log, tabled, AnswersThrough, value_through, looks_twice, log_of, ObjectId, ℕ, [], refl, ap, subst, Option, through_from}
 use Rattle.rcu_hash.proofs.view.TableView.get.Goals as goal
 
 pub returns-in-Ok-Some-clause-looked : goal.returns-in-Ok-Some-clause-looked

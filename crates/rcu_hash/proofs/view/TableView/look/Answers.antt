@@ -1,7 +1,4 @@
-use Rattle.std.proofs.Common.{◌∙◌, false}
-use Rattle.live_log.specs.Tables.{tabled}
-use Rattle.rcu_list.proofs.live_read.Lemmas.{looks_twice}
-use Rattle.rcu_hash.proofs.Looking.{answers_nowhere, leads_words, value_answers}
+use Rattle.rcu_hash.proofs.Cited.{tabled, looks_twice, ◌∙◌, false, answers_nowhere, leads_words, value_answers}
 use Rattle.rcu_hash.proofs.view.TableView.look.Goals as goal
 
 pub returns-in_default-clause-window : goal.returns-in_default-clause-window

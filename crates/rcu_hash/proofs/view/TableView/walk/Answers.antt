@@ -1,9 +1,4 @@
-use Rattle.std.proofs.Common.{◌<◌, ◌++◌, [], refl, ◌∙◌, arith}
-use Rattle.live_log.specs.Tables.{tabled}
-use Rattle.rcu_list.specs.live_read.Holding.{log_of}
-use Rattle.rcu_list.proofs.live_read.Lemmas.{looks_twice}
-use Rattle.rcu_hash.proofs.Going.{folds_both, went_nowhere, went_on}
-use Rattle.rcu_hash.proofs.Looking.{HadThrough, bucket_answers, through_later, walk_ends, walk_stops}
+use Rattle.rcu_hash.proofs.Cited.{tabled, looks_twice, log_of, [], ◌∙◌, ◌<◌, ◌++◌, refl, arith, folds_both, went_nowhere, went_on, HadThrough, through_later, bucket_answers, walk_stops, walk_ends}
 use Rattle.rcu_hash.proofs.view.TableView.walk.Goals as goal
 
 pub loop-number-init : goal.loop-number-init

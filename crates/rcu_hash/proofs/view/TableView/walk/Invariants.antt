@@ -1,10 +1,4 @@
-use Rattle.std.proofs.Common.{◌≡◌, ℕ, List}
-use Rattle.std.specs.List.{FoldsTo}
-use Rattle.live_log.specs.Tables.{tabled}
-use Rattle.rcu_list.specs.live_read.Holding.{log_of}
-use Rattle.rcu_list.specs.live_read.Reads.{Looks}
-use Rattle.rcu_hash.specs.Directories.{AnswersThrough}
-use Rattle.rcu_hash.proofs.Going.{WentThrough}
+use Rattle.rcu_hash.proofs.Cited.{tabled, AnswersThrough, log_of, Looks, ◌≡◌, ℕ, List, FoldsTo, WentThrough}
 use Rattle.rcu_hash.proofs.view.TableView.walk.Given as goal
 
 abbrev pub invariant-loop-number : goal.invariant-loop-number

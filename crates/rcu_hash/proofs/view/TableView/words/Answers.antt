@@ -1,6 +1,4 @@
-use Rattle.std.proofs.Common.{ℕ, List, ap, ◌∙◌, slice_index_or}
-use Rattle.live_log.specs.Tables.{tabled}
-use Rattle.rcu_list.proofs.live_read.Lemmas.{looks_twice}
+use Rattle.rcu_hash.proofs.Cited.{tabled, looks_twice, ℕ, ◌∙◌, List, ap, slice_index_or}
 use Rattle.rcu_hash.proofs.view.TableView.words.Goals as goal
 
 pub returns-clause-looked : goal.returns-clause-looked

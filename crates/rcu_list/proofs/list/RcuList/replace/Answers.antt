@@ -1,27 +1,29 @@
-use Rattle.std.proofs.Common.{◌≡◌, ◌≤◌, ◌%◌, ℕ, List, length, slice_get, slice_index_or, inl, inr, ⊎_elim, refl, ap, sym, ◌∙◌, subst, arith}
-use Rattle.std.proofs.lemmas.Option.{slice_get_within}
-use Rattle.rcu_model.specs.declared.event.ObjectId.{ObjectId}
-use Rattle.rcu_model.proofs.Lemmas.{some_is}
-use Rattle.live_log.specs.Keys.{key_of}
-use Rattle.live_log.specs.Log.{Log, Begins, record_of}
-use Rattle.live_log.specs.Maps.{IsUnnoted}
-use Rattle.live_log.proofs.Lemmas.{begins_trans}
-use Rattle.domain.specs.live_rule.declared.rights.ChainRight.{ChainRight}
-use Rattle.domain.specs.live_table.Rights.{own_in}
-use Rattle.domain.specs.live_items.Retiring.{Queues}
-use Rattle.domain.specs.live_reclaim.Refusing.{RefusesRetirement}
-use Rattle.domain.proofs.live_read.Lemmas.{stays_makes}
-use Rattle.domain.specs.live_write.Chains.{list_in}
-use Rattle.domain.proofs.live_write.Lemmas.{index_has}
+use Rattle.rcu_list.proofs.Cited.{◌≡◌, ◌≤◌, ◌%◌, ℕ, List, Option, IsSome, length, slice_get, slice_index_or, inr, refl, ap, sym, ◌∙◌, subst, arith, slice_get_within, ObjectId, some_is, key_of, Log, Begins, record_of, IsUnnoted, begins_trans, ChainRight, own_in, Queues, RefusesRetirement, stays_makes, IsAfter, list_in, index_has, IsLater, HasLearned}
+use Rattle.rcu_list.specs.Maps.{map_of}
 use Rattle.rcu_list.proofs.GivingBack.{gives_back}
-use Rattle.rcu_list.proofs.Writing.{by_no_note, by_second, chain_known, keys_walked, map_walked, note_still, note_walked, replaced_map, same_own, takes_over, KnowsKeys, by_result, keys_replaced}
+use Rattle.rcu_list.proofs.Refused.{gives_back_then, looked_then_learned, map_learned, not_replaced}
+use Rattle.rcu_list.proofs.Writing.{by_no_note, by_second, chain_known, keys_walked, note_still, note_walked, replaced_map, same_own, takes_over, KnowsKeys, by_result, keys_replaced}
 use Rattle.rcu_list.proofs.list.RcuList.replace.Goals as goal
 
-pub returns-in-Err-clause-refused : goal.returns-in-Err-clause-refused
-returns-in-Err-clause-refused g c = (refl, ⊎_elim (λ x. inl x) (λ x. inr (x.0, inl x.1)) c.in-Err.ensures.refused)
-
+-- a refusal, once the caller has heard of the log of the moment
 pub returns-in-Err-clause-kept : goal.returns-in-Err-clause-kept
-returns-in-Err-clause-kept g c = let p = c.in-Err.ensures.looked in (p.0, p.1, p.2)
+returns-in-Err-clause-kept g c =
+    let l = c.in-Err.ensures.looked in let h = c.hear.ensures.learned in
+    let learned = looked_then_learned g.P.GracePlan.QSBR g.K.ChainRule.allows c.args.self.now.chain.seat.me c.prepare_replacement.new.chain.seat.me c.hear.new.self.chain.seat.me l.1 h.2 h.3 in
+    ((h.0.0 ∙ l.0.0, h.0.1 ∙ l.0.1), h.1 ∙ l.1.0, learned.0, learned.1, h.4 ∙ l.2)
+
+pub returns-in-Err-clause-map : goal.returns-in-Err-clause-map
+returns-in-Err-clause-map g c =
+    let kept = returns-in-Err-clause-kept g c in let old = c.args.self.now.chain in let done = c.hear.new.self.chain in
+    map_learned g.P.GracePlan.QSBR g.K.ChainRule.allows (g.met.K.MapRule.maps g.P.GracePlan.QSBR) old.number old.seat.me.0 done.seat.me.0 kept.2 kept.3 old.owns.2 old.owns.1 done.owns.1
+
+pub returns-in-Err-clause-refused : goal.returns-in-Err-clause-refused
+returns-in-Err-clause-refused g c =
+    let old = c.args.self.now.chain in let h = c.hear.ensures in let map = returns-in-Err-clause-map g c in (
+      refl,
+      not_replaced g.W.Caller g.P.GracePlan.QSBR g.K.ChainRule.allows g.B.Site.sizes c.args.caller.now c.prepare_replacement.new.caller c.hear.new.caller c.in-Err.refusal h.same (subst (IsAfter g.P.GracePlan.QSBR g.K.ChainRule.allows (g.W.Caller.seen c.prepare_replacement.new.caller) (g.W.Caller.heard c.prepare_replacement.new.caller)) (sym h.heard) h.told.0) old.seat.me.0.seen old.number c.args.key
+          (subst (λ (l : Log). map_of l old.number c.args.key ≡ map_of old.seat.me.0.seen old.number c.args.key) (sym h.heard) (map c.args.key)) c.in-Err.ensures.refused,
+    )
 
 pub replace_retire-requires : goal.replace_retire-requires
 replace_retire-requires g c = record {
@@ -65,6 +67,19 @@ returns-in-Ok-replace_retire-clause-same g c =
       ),
     )
 
+-- the new record is back before that
+pub returns-in-Err-replace_retire-clause-kept : goal.returns-in-Err-replace_retire-clause-kept
+returns-in-Err-replace_retire-clause-kept g c =
+    let l = c.in-Ok.ensures.looked in let h = c.hear-in-Err-replace_retire.ensures.learned in let b = c.in-Err-replace_retire.ensures.back.2 in let new = c.prepare_replacement.new.chain in let done = c.hear-in-Err-replace_retire.new.self.chain in
+    let on = subst (λ z. (done.seat.me.1 ≡ z.seat.me.1) × HasLearned z.seat.me.0 done.seat.me.0 × IsLater g.P.GracePlan.QSBR g.K.ChainRule.allows z.seat.me.0 done.seat.me.0) b (h.1, h.2, h.3) in
+    let learned = looked_then_learned g.P.GracePlan.QSBR g.K.ChainRule.allows c.args.self.now.chain.seat.me new.seat.me done.seat.me l.1 on.1 on.2 in
+    ((h.0.0 ∙ (ap (λ z. z.seat.table_id) b ∙ l.0.0), h.0.1 ∙ (ap (λ z. z.seat.id) b ∙ l.0.1)), on.0 ∙ l.1.0, learned.0, learned.1, h.4 ∙ (ap (λ z. z.number) b ∙ l.2))
+
+pub returns-in-Err-replace_retire-clause-map : goal.returns-in-Err-replace_retire-clause-map
+returns-in-Err-replace_retire-clause-map g c =
+    let kept = returns-in-Err-replace_retire-clause-kept g c in let old = c.args.self.now.chain in let done = c.hear-in-Err-replace_retire.new.self.chain in
+    map_learned g.P.GracePlan.QSBR g.K.ChainRule.allows (g.met.K.MapRule.maps g.P.GracePlan.QSBR) old.number old.seat.me.0 done.seat.me.0 kept.2 kept.3 old.owns.2 old.owns.1 done.owns.1
+
 pub returns-in-Err-replace_retire-clause-refused : goal.returns-in-Err-replace_retire-clause-refused
 returns-in-Err-replace_retire-clause-refused g c =
     let a = c.in-Ok.ensures in let d = c.discard.ensures in let ready = a.ready.0 in
@@ -75,27 +90,14 @@ returns-in-Err-replace_retire-clause-refused g c =
     let number : new.number ≡ old.number = a.looked.2 in (
       c.in-Err-replace_retire.ensures.back.1,
       inr (
-        a.ready.1,
+        subst (λ (x : Option ℕ). IsSome x) (sym (subst (λ (l : Log). map_of l old.number c.args.key ≡ map_of old.seat.me.0.seen old.number c.args.key) (sym c.hear-in-Err-replace_retire.ensures.heard) (returns-in-Err-replace_retire-clause-map g c c.args.key))) a.ready.1,
         inr (by_second c.in-Err-replace_retire.ensures.refused
             (λ n. let few : length (list_in new.seat.me.0) ≤ c.in-Ok.ready.0 = n.1 in omega arith)
             (λ k. let own = ap (λ o. o.seat.me.0.object) c.in-Err-replace_retire.ensures.back.0 in
-            gives_back w g.P.GracePlan.QSBR g.K.ChainRule.allows sizes w0 w1 w2 w3 c.in-Err-replace_retire.refusal (old.number % sizes.queues) c.in-Ok.ready.1.seat.me.0.object c.in-Err-replace_retire.owned.seat.me.0.object own
-            a.same.0 a.same.1.0 a.heard.after_heard a.took (subst (λ (n : ℕ). RefusesRetirement w g.P.GracePlan.QSBR g.K.ChainRule.allows sizes (n % sizes.queues) w1 w2 c.in-Err-replace_retire.refusal) number k.1) d.freed d.heard.0 d.loads d.same)),
+            gives_back_then w g.P.GracePlan.QSBR g.K.ChainRule.allows sizes w0 w3 c.hear-in-Err-replace_retire.new.caller c.in-Err-replace_retire.refusal c.hear-in-Err-replace_retire.ensures.same (subst (IsAfter g.P.GracePlan.QSBR g.K.ChainRule.allows (w.seen w3) (w.heard w3)) (sym c.hear-in-Err-replace_retire.ensures.heard) c.hear-in-Err-replace_retire.ensures.told.0) (old.number % sizes.queues) (gives_back w g.P.GracePlan.QSBR g.K.ChainRule.allows sizes w0 w1 w2 w3 c.in-Err-replace_retire.refusal (old.number % sizes.queues) c.in-Ok.ready.1.seat.me.0.object c.in-Err-replace_retire.owned.seat.me.0.object own
+            a.same.0 a.same.1.0 a.heard.after_heard a.took (subst (λ (n : ℕ). RefusesRetirement w g.P.GracePlan.QSBR g.K.ChainRule.allows sizes (n % sizes.queues) w1 w2 c.in-Err-replace_retire.refusal) number k.1) d.freed d.heard.0 d.loads d.same))),
       ),
     )
-
-pub returns-in-Err-replace_retire-clause-kept : goal.returns-in-Err-replace_retire-clause-kept
-returns-in-Err-replace_retire-clause-kept g c = let b = c.in-Err-replace_retire.ensures.back in let p = c.in-Ok.ensures.looked in rw b.2 (p.0, p.1, p.2)
-
-pub returns-in-Err-clause-map : goal.returns-in-Err-clause-map
-returns-in-Err-clause-map g c =
-    let qsbr = g.P.GracePlan.QSBR in let allows = g.K.ChainRule.allows in let maps = g.met.K.MapRule.maps qsbr in let old = c.args.self.now.chain in let new = c.prepare_replacement.new.chain in
-    map_walked qsbr allows maps old.number old.seat.me new.seat.me c.in-Err.ensures.looked.1 old.owns.1 old.owns.2 new.owns.1
-
-pub returns-in-Err-replace_retire-clause-map : goal.returns-in-Err-replace_retire-clause-map
-returns-in-Err-replace_retire-clause-map g c =
-    let qsbr = g.P.GracePlan.QSBR in let allows = g.K.ChainRule.allows in let maps = g.met.K.MapRule.maps qsbr in let old = c.args.self.now.chain in let new = c.prepare_replacement.new.chain in
-    rw c.in-Err-replace_retire.ensures.back.2 (map_walked qsbr allows maps old.number old.seat.me new.seat.me c.in-Ok.ensures.looked.1 old.owns.1 old.owns.2 new.owns.1)
 
 pub invariant_of-self : goal.invariant_of-self
 invariant_of-self g c =

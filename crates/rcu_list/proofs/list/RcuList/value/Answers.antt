@@ -1,14 +1,6 @@
-use Rattle.std.proofs.Common.{◌≡◌, ℕ, List, Some, length, slice_get, slice_index_or, ap, sym, ◌∙◌, arith, subst}
-use Rattle.std.proofs.lemmas.Option.{slice_get_within}
-use Rattle.rcu_model.specs.declared.event.ObjectId.{ObjectId}
-use Rattle.rcu_model.proofs.Lemmas.{some_is}
-use Rattle.live_log.specs.Log.{record_of}
-use Rattle.domain.specs.live_rule.declared.rights.ChainRight.{ChainRight}
-use Rattle.domain.specs.live_write.Chains.{list_in}
-use Rattle.domain.proofs.live_write.Lemmas.{index_has, went_both}
+use Rattle.rcu_list.proofs.Cited.{◌≡◌, ℕ, List, Some, length, slice_get, slice_index_or, ap, sym, ◌∙◌, arith, subst, slice_get_within, ObjectId, some_is, record_of, ChainRight, list_in, index_has, went_both, own_in}
 use Rattle.rcu_list.specs.Maps.{value_of}
 use Rattle.rcu_list.proofs.Writing.{note_walked, same_own, walked_missing, walked_value, KnowsKeys, by_option, keys_walked, note_still}
-use Rattle.domain.specs.live_table.Rights.{own_in}
 use Rattle.rcu_list.proofs.list.RcuList.value.Goals as goal
 
 pub returns-in_default-clause-map : goal.returns-in_default-clause-map

@@ -1,7 +1,4 @@
-use Rattle.std.proofs.Common.{◌≡◌, ◌%◌, [], refl}
-use Rattle.live_log.specs.Log.{Log}
-use Rattle.domain.specs.live_read.Holding.{log_of}
-use Rattle.domain.proofs.live_read.Lemmas.{looks_twice}
+use Rattle.rcu_list.proofs.Cited.{◌≡◌, ◌%◌, [], refl, Log, log_of, looks_twice}
 use Rattle.rcu_list.proofs.Going.{began_before, nothing_there}
 use Rattle.rcu_list.proofs.view.ListView.for_each_of.Goals as goal
 

@@ -1,8 +1,4 @@
-use Rattle.std.proofs.Common.{[], refl}
-use Rattle.live_log.specs.Log.{Log, record_of, state_of}
-use Rattle.live_log.proofs.Lemmas.{begins_trans}
-use Rattle.domain.specs.live_read.Holding.{log_of}
-use Rattle.domain.proofs.live_read.Lemmas.{looks_twice}
+use Rattle.rcu_list.proofs.Cited.{[], refl, Log, record_of, state_of, begins_trans, log_of, looks_twice}
 use Rattle.rcu_list.proofs.Values.{empty_map}
 use Rattle.rcu_list.proofs.view.ListView.get.Goals as goal
 

@@ -1,8 +1,4 @@
-use Rattle.std.proofs.Common.{◌≡◌, sym, ap, ◌∙◌, subst, arith}
-use Rattle.live_log.specs.Keys.{rank_of}
-use Rattle.live_log.specs.Log.{record_of}
-use Rattle.domain.specs.live_read.Holding.{log_of}
-use Rattle.domain.proofs.live_read.Lemmas.{looks_twice}
+use Rattle.rcu_list.proofs.Cited.{◌≡◌, sym, ap, ◌∙◌, subst, arith, rank_of, record_of, log_of, looks_twice}
 use Rattle.rcu_list.specs.Maps.{AnswersBetween}
 use Rattle.rcu_list.proofs.Looking.{answers_next, answers_none, stands_first, stands_next}
 use Rattle.rcu_list.proofs.view.ListView.search.Goals as goal

@@ -1,5 +1,4 @@
-use Rattle.std.proofs.Common.{ℕ, List, ◌∙◌, ap, sym, slice_index_or}
-use Rattle.domain.proofs.live_read.Lemmas.{looks_twice}
+use Rattle.rcu_list.proofs.Cited.{ℕ, List, ◌∙◌, ap, sym, slice_index_or, looks_twice}
 use Rattle.rcu_list.proofs.view.ListView.value_at.Goals as goal
 
 pub returns-clause-looked : goal.returns-clause-looked

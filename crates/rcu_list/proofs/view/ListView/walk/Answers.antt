@@ -1,10 +1,4 @@
-use Rattle.std.proofs.Common.{◌≡◌, ℕ, ◌%◌, [], ◌∷◌, ◌++◌, refl, sym, ap, ◌∙◌, subst, ⊎_elim, arith}
-use Rattle.std.specs.List.{FoldsTo}
-use Rattle.std.proofs.lemmas.Fn.{FoldsTo-push}
-use Rattle.live_log.specs.Keys.{rank_of}
-use Rattle.live_log.specs.Log.{record_of}
-use Rattle.domain.specs.live_read.Holding.{log_of}
-use Rattle.domain.proofs.live_read.Lemmas.{looks_twice}
+use Rattle.rcu_list.proofs.Cited.{◌≡◌, ℕ, ◌%◌, [], ◌∷◌, ◌++◌, refl, sym, ap, ◌∙◌, subst, ⊎_elim, arith, FoldsTo, FoldsTo-push, rank_of, record_of, log_of, looks_twice}
 use Rattle.rcu_list.proofs.Going.{goes_by, goes_first, goes_first_by, goes_last, goes_lower, goes_next, goes_none}
 use Rattle.rcu_list.proofs.view.ListView.walk.Goals as goal
 

@@ -1,9 +1,4 @@
-use Rattle.std.proofs.Common.{◌≡◌, ℕ, ◌+◌, ◌≤◌, ◌%◌, List}
-use Rattle.std.specs.List.{FoldsTo}
-use Rattle.rcu_model.specs.declared.event.ObjectId.{ObjectId}
-use Rattle.live_log.specs.Keys.{rank_of}
-use Rattle.live_log.specs.Log.{record_of}
-use Rattle.domain.specs.live_read.Holding.{log_of}
+use Rattle.rcu_list.proofs.Cited.{◌≡◌, ℕ, ◌+◌, ◌≤◌, ◌%◌, List, FoldsTo, ObjectId, rank_of, record_of, log_of}
 use Rattle.rcu_list.proofs.Going.{GoesAt}
 use Rattle.rcu_list.proofs.view.ListView.walk.Given as goal
 

@@ -1,27 +1,5 @@
 -- The handle of C and the generic one have the same bytes and own the same.
-use Rattle.std.proofs.Common.{ℕ, List, [], ◌∷◌, refl}
-use base.Fraction.{full_share}
-use mir.Syntax.{named}
-use mir.Val.{Val, vptr}
-use base.Logic.{SProp, ent, sep}
-use base.Fml.{Lft, GName, Share, ftrue, flft, fsep}
-use prog.Wp.{Env}
-use types.Logic.{Logic, sem}
-use seplogic.Ra.Ura.{Ura}
-use types.Kit.{‵, raw, ◌⊛◌, some, later, at_ret, ◌$◌, ◌∵◌, !, qed, by, move, keep, drop, split, join, pick, fsplit, fsplit3, fjoin, suffices, frame, done, await, group, fpack, use1}
-use types.Run.{stop, of_opd, first, blocks, exec, returns, enter, addr}
-use types.ByLocal.{alloc_all, pass_all, free_all, look_at, get, through, sets, env, sets_last}
-use contract.Running.{tables}
-use denote.Exit.{no}
-use denote.RattleType.{RattleType, owns}
-use denote.Memory.{part_at, mem, cell_at, part_of}
-use denote.Ref.{MutRef, mut_vals, mut_Tells}
-use denote.Signature.{plain, mut_ref_to, types_at}
-use denote.Steps.{nothing, opens}
-use denote.Triple.Walked.{says, Stays, stay_dropped, walk_of, ends_at, Goes-spent_ref}
-use denote.Follow.{follows, Part, lends_Part}
-use Rattle.std.proofs.raw_atomic.Walks.{proved}
-use Rattle.core.proofs.atomic.Steps.{tail}
+use Rattle.robiniagolf.proofs.Cited.{ℕ, List, [], ◌∷◌, refl, full_share, named, Val, vptr, SProp, ent, sep, Lft, GName, Share, ftrue, flft, fsep, Env, Logic, sem, Ura, ‵, raw, ◌⊛◌, some, later, at_ret, ◌$◌, ◌∵◌, !, qed, by, move, keep, drop, split, join, pick, fsplit, fsplit3, fjoin, suffices, frame, done, await, group, fpack, use1, stop, of_opd, first, blocks, exec, returns, enter, addr, alloc_all, pass_all, free_all, look_at, get, through, sets, env, sets_last, tables, no, RattleType, owns, part_at, mem, cell_at, part_of, MutRef, mut_vals, mut_Tells, plain, mut_ref_to, types_at, nothing, opens, says, Stays, stay_dropped, walk_of, ends_at, Goes-spent_ref, follows, Part, lends_Part, proved, tail}
 use Rattle.boxed_handle.specs.contracts.handle.Handle as generic
 use Rattle.held_values.specs.contracts.MembReader.{the_row as R}
 use Rattle.robiniagolf.specs.contracts.c_handles.MembReaderHandle as handle

@@ -1,8 +1,4 @@
-use denote.Struct.Struct.{exits_of}
-use denote.Struct.Owning.{shape, fields, to}
-use denote.Param.Send.{IsSend, AllSend, owning_send, struct_send, sendable}
-use Rattle.std_alloc.proofs.SendSync.{quiet}
-use Rattle.boxed_handle.proofs.Lemmas.{owned_crosses}
+use Rattle.robiniagolf.proofs.Cited.{exits_of, shape, fields, to, IsSend, AllSend, owning_send, struct_send, sendable, quiet, owned_crosses}
 use Rattle.held_values.specs.contracts.QsbrReader.{the_row as R}
 use Rattle.held_values.proofs.Lemmas.{qsbr_reader_crosses as sent}
 use Rattle.robiniagolf.specs.contracts.c_handles.QsbrReaderKept.{the_row, the_type}

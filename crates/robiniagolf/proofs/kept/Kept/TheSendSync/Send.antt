@@ -1,16 +1,8 @@
-use Rattle.std.specs.Prelude.{Option, Some, None}
+use Rattle.robiniagolf.proofs.Cited.{Some, None, Keyless, lone, Ptr, exits_of, shape, fields, to, IsSend, AllSend, owning_send, struct_send, sendable, frees, quiet, lies, heap, heap_token, owned_at}
+use Rattle.std.specs.Prelude.{Option}
 use mir.Raw.{raw}
-use base.Shift.{Keyless}
-use denote.Memory.{lone}
-use denote.RawPtr.{Ptr}
-use denote.Struct.Struct.{exits_of}
-use denote.Struct.Owning.{shape, fields, to}
-use denote.Param.Send.{IsSend, AllSend, owning_send, struct_send, sendable}
-use Rattle.std.proofs.Crossing.{frees}
-use Rattle.std_alloc.proofs.SendSync.{quiet, lies}
 use Rattle.judging.specs.contracts.text_judge.TextJudge.{the_row as R}
 use Rattle.judging.proofs.Lemmas.{judge_crosses as sent}
-use Rattle.boxed_handle.specs.Owned.{heap, heap_token, owned_at}
 use Rattle.robiniagolf.specs.contracts.kept.Kept.{the_row, the_type}
 
 owned : (p : Ptr) (v : Option R.Denot) → Keyless (owned_at heap_token R p v)

@@ -1,21 +1,5 @@
 -- `empty` keeps nothing, at null.
-use Rattle.std.proofs.Common.{◌≡◌, [], ◌∷◌, refl, lit<}
-use Rattle.std.specs.Prelude.{None}
-use mir.Val.{Val}
-use base.Logic.{SProp, emp}
-use types.Kit.{‵, raw, ◌⊛◌, ◌$◌, ◌∵◌, !, qed, by, keep, split, use0}
-use types.Run.{no_more, and_then, returns, enter, lit}
-use types.ByLocal.{alloc_all, pass_all, free_all, look_at, sets}
-use types.Part.{agg}
-use contract.Monad.{fact, fact_i}
-use contract.Running.{tables}
-use denote.RawPtr.{null_ptr, ptr_val}
-use denote.RattleType.{owns}
-use denote.Signature.{types_at}
-use denote.Steps.{nothing}
-use denote.Triple.Entry.{alive}
-use denote.Triple.Walked.{Stays, walk_of}
-use Rattle.std.proofs.raw_atomic.Walks.{proved_at, leaves}
+use Rattle.robiniagolf.proofs.Cited.{◌≡◌, [], ◌∷◌, refl, lit<, None, Val, SProp, emp, ‵, raw, ◌⊛◌, ◌$◌, ◌∵◌, !, qed, by, keep, split, use0, no_more, and_then, returns, enter, lit, alloc_all, pass_all, free_all, look_at, sets, agg, fact, fact_i, tables, null_ptr, ptr_val, owns, types_at, nothing, alive, Stays, walk_of, proved_at, leaves}
 use Rattle.robiniagolf.proofs.KeptValues.{kept_in, lone_val}
 use Rattle.judging.specs.contracts.text_judge.TextJudge.{the_row as R}
 use Rattle.std.specs.Prelude.{Option}

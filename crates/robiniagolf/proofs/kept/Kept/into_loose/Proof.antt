@@ -1,30 +1,7 @@
 -- `into_loose` gives up what it keeps.
-use Rattle.std.proofs.Common.{◌≡◌, List, [], ◌∷◌, ◌++◌, refl, sym, subst}
-use Rattle.std.specs.Prelude.{Some, None}
-use mir.Syntax.{impl, tnil, dnil}
-use mir.Val.{Val, vptr}
-use base.Logic.{SProp, ent, id⊢, emp}
-use prog.Wp.{WpFn}
-use types.Kit.{‵, raw, ◌⊛◌, ◌$◌, ◌∵◌, !, qed, by, move, keep, split, fsplit, fjoin, suffices, use0, use1}
-use types.Run.{stop, fld, of_opd, no_more, and_then, returns, enter}
-use types.ByLocal.{alloc_all, pass_all, free_all, look_at, get, get_in, sets}
-use types.Part.{agg, sub, whole}
-use contract.Monad.{fact, fact_i}
-use contract.Running.{tables}
-use denote.Exit.{yes}
-use denote.RattleType.{RattleType, owns}
-use denote.Signature.{types_at, plain}
-use denote.RawPtr.{block_ptr}
-use denote.Steps.{nothing, heard}
-use denote.Triple.Entry.{alive}
-use denote.Triple.Walked.{Stays, stay_dropped, walk_of, Goes-dropped}
-use Rattle.core.proofs.alloc.Calls.{Al, handle_tells}
-use Rattle.std.proofs.raw_atomic.Walks.{proved_at, leaves}
-use Rattle.std_alloc.specs.Box.Ownership.{box_owns}
+use Rattle.robiniagolf.proofs.Cited.{◌≡◌, List, [], ◌∷◌, ◌++◌, refl, sym, subst, Some, None, impl, tnil, dnil, Val, vptr, SProp, ent, id⊢, emp, WpFn, ‵, raw, ◌⊛◌, ◌$◌, ◌∵◌, !, qed, by, move, keep, split, fsplit, fjoin, suffices, use0, use1, stop, fld, of_opd, no_more, and_then, returns, enter, alloc_all, pass_all, free_all, look_at, get, get_in, sets, agg, sub, whole, fact, fact_i, tables, yes, RattleType, owns, types_at, plain, block_ptr, nothing, heard, alive, Stays, stay_dropped, walk_of, Goes-dropped, Al, handle_tells, proved_at, leaves, box_owns, ghosts, both, loose_good, loose_in}
 use Rattle.std.specs.contracts.alloc.Global as heap
 use Rattle.std.proofs.alloc.Global.TheLaws as heap_laws
-use Rattle.std_heap.specs.contracts.GlobalAllocator.TheImpl.{ghosts}
-use Rattle.loose_box.proofs.Lemmas.{both, loose_good, loose_in}
 use Rattle.judging.specs.contracts.text_judge.TextJudge.{the_row as R}
 use Rattle.robiniagolf.specs.contracts.kept.Kept as kept
 use Rattle.robiniagolf.proofs.KeptValues.{kept_out, lone_val, some_of}

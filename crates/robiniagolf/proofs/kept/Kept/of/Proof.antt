@@ -1,29 +1,8 @@
 -- `of` keeps what the loose box owns.
-use Rattle.std.proofs.Common.{◌≡◌, List, [], ◌∷◌, ◌++◌, refl, sym, subst}
-use Rattle.std.specs.Prelude.{Some}
-use mir.Val.{Val, vptr}
-use base.Logic.{SProp, ent, id⊢, emp}
-use prog.Wp.{WpFn}
-use types.Kit.{‵, raw, ◌⊛◌, ◌$◌, ◌∵◌, !, qed, by, move, keep, split, fsplit, fjoin, suffices, use0, use1}
-use types.Run.{stop, fld, of_opd, no_more, and_then, returns, enter}
-use types.ByLocal.{alloc_all, pass_all, free_all, look_at, get, get_in, sets}
-use types.Part.{agg, sub, whole}
-use contract.Monad.{fact, fact_i}
-use contract.Running.{tables}
-use denote.Exit.{yes}
-use denote.RattleType.{RattleType, owns}
-use denote.Signature.{types_at, plain}
-use denote.RawPtr.{block_ptr}
-use denote.Steps.{nothing}
-use denote.Triple.Entry.{alive}
-use denote.Triple.Walked.{Stays, stay_dropped, walk_of, Goes-dropped}
-use Rattle.std.proofs.raw_atomic.Walks.{proved_at, leaves}
+use Rattle.robiniagolf.proofs.Cited.{◌≡◌, List, [], ◌∷◌, ◌++◌, refl, sym, subst, Some, Val, vptr, SProp, ent, id⊢, emp, WpFn, ‵, raw, ◌⊛◌, ◌$◌, ◌∵◌, !, qed, by, move, keep, split, fsplit, fjoin, suffices, use0, use1, stop, fld, of_opd, no_more, and_then, returns, enter, alloc_all, pass_all, free_all, look_at, get, get_in, sets, agg, sub, whole, fact, fact_i, tables, yes, RattleType, owns, types_at, plain, block_ptr, nothing, alive, Stays, stay_dropped, walk_of, Goes-dropped, proved_at, leaves, ghosts, both, Loose, loose_good, loose_out, heap_token, owned_at}
 use Rattle.std.specs.contracts.alloc.Global as heap
 use Rattle.std.proofs.alloc.Global.TheLaws as heap_laws
-use Rattle.std_heap.specs.contracts.GlobalAllocator.TheImpl.{ghosts}
-use Rattle.loose_box.proofs.Lemmas.{both, Loose, loose_good, loose_out}
 use Rattle.judging.specs.contracts.text_judge.TextJudge.{the_row as R}
-use Rattle.boxed_handle.specs.Owned.{heap_token, owned_at}
 use Rattle.robiniagolf.proofs.KeptValues.{kept_in, lone_val}
 use Rattle.robiniagolf.specs.contracts.kept.Kept.of.{ended, clauses}
 use Rattle.robiniagolf.specs.contracts.kept.Kept.of.Key.{name as #self}

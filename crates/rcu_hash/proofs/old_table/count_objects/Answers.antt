@@ -1,9 +1,5 @@
-use Rattle.std.proofs.Common.{◌≡◌, ◌+◌, ◌-◌, ◌^◌, length, map, min, take, arith, refl}
-use Rattle.std.proofs.lemmas.Option.{slice_get_read}
-use Rattle.rcu_list.specs.live_write.Chains.{list_in}
-use Rattle.rcu_hash.specs.Tidying.{objects_in}
-use Rattle.rcu_hash.proofs.Emptying.{objects_next}
-use Rattle.rcu_hash.proofs.tidying.count.Goals as goal
+use Rattle.rcu_hash.proofs.Cited.{objects_in, list_in, ◌≡◌, ◌+◌, ◌^◌, ◌-◌, length, refl, arith, map, take, min, slice_get_read, objects_next}
+use Rattle.rcu_hash.proofs.old_table.count_objects.Goals as goal
 
 pub loop-index-preserved : goal.loop-index-preserved
 loop-index-preserved g c =
