@@ -407,7 +407,7 @@ static void mb_walk(void)
 	urcu_mb_unregister_thread();
 }
 
-/* A hash table of entries by their keys, of so many buckets for good, and the keys that are looked up. */
+/* A hash table of entries by their keys, of this many buckets for good, and the keys that are looked up. */
 struct entry {
 	struct cds_lfht_node node;
 	struct rcu_head head;

@@ -1,4 +1,4 @@
-//! Writes a steady log of so many events: steady EVENTS. Built by `rustc -O steady.rs`.
+//! Writes a steady log of this many events: steady EVENTS. Built by `rustc -O steady.rs`.
 //!
 //! Four readers take turns. Each finds the first record of a list, which an updater then replaces, retires and queues; two
 //! turns later the reader leaves, and three turns later the record is run. In each eighth turn a grace period and a barrier

@@ -125,7 +125,7 @@ BUGS = [
         "",
     ),
     (
-        "an index is that of the second word",
+        "an index is found by the second word",
         "live_write/src/walk.rt",
         "let found = load_word(table, seat, cell, 0);",
         "let found = load_word(table, seat, cell, 1);",

@@ -44,7 +44,7 @@ class Script:
         self.refused_memory = None
 
     def answer(self, call, memory=None):
-        """What a call is answered. With `memory` it is refused memory: wholly, or after so many retirements."""
+        """What a call is answered. With `memory` it is refused memory: wholly, or after this many retirements."""
         if (call.letter, call.verb) == ("d", "again"):
             call, self.refused_memory = self.refused_memory, None
             if call is None:

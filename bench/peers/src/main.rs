@@ -12,7 +12,7 @@ use std::{env, mem, thread};
 
 const KINDS: [&str; 4] = ["section", "read", "retire", "mix"];
 
-/// One operation of so many is an update.
+/// One operation of this many is an update.
 const UPDATE_EVERY: u64 = 100;
 
 /// A record of four words.
@@ -158,7 +158,7 @@ fn part<P: Place>(kind: &str, places: &[Apart<P>], own: &P, count: u64) {
     P::settle();
 }
 
-/// So many threads, with a place each.
+/// This many threads, with a place each.
 fn run<P: Place>(kind: &str, count: u64, threads: usize) {
     let places: Vec<Apart<P>> = (0..threads).map(|_| Apart(P::new())).collect();
     thread::scope(|scope| {
@@ -208,7 +208,7 @@ fn part_of_table(kind: &str, table: &Table, count: u64, hand: u64, threads: u64)
     }
 }
 
-/// So many threads with one table, which has its keys; it hashes as std does.
+/// This many threads with one table, which has its keys; it hashes as std does.
 fn run_table(kind: &str, count: u64, threads: usize) {
     let keys = match kind {
         "insert" => 0,

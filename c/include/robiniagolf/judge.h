@@ -72,7 +72,7 @@ struct robiniagolf_verdict {
  * handle keeps one already: the handle is then as it was. */
 uint32_t robiniagolf_judge_new(struct robiniagolf_judge *judge);
 
-/* Takes the next piece: so many bytes from there on. The pointer may be null where they are none. Answers what
+/* Takes the next piece: this many bytes from there on. The pointer may be null where they are none. Answers what
  * robiniagolf_judge_verdict would: YES, NO, BAD_TEXT, MEMORY, or EMPTY, and then nothing is changed. */
 uint32_t robiniagolf_judge_feed(struct robiniagolf_judge *judge, const uint8_t *piece, size_t length);
 

@@ -123,7 +123,7 @@ enum robiniagolf_status {
     ROBINIAGOLF_RCU_BAD_CONFIG = 11 /* slots not in 1..256 */
 };
 
-/* Makes a domain of so many slots, and its grace periods: DONE, MEMORY, IN_USE (either), BAD_CONFIG. */
+/* Makes a domain of this many slots, and its grace periods: DONE, MEMORY, IN_USE (either), BAD_CONFIG. */
 uint32_t robiniagolf_memb_domain_new(struct robiniagolf_memb_domain *domain, struct robiniagolf_memb_grace *grace,
                                      size_t slots);
 uint32_t robiniagolf_qsbr_domain_new(struct robiniagolf_qsbr_domain *domain, struct robiniagolf_qsbr_grace *grace,
