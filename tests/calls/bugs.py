@@ -145,13 +145,13 @@ BUGS = [
     ),
     (
         "a batch is run backwards",
-        "live_items/src/items.rt",
+        "live_callbacks/src/items.rt",
         "        self.queue.take_waiting(batch);\n",
         "        self.queue.take_waiting(batch);\n        batch.reverse();\n",
     ),
     (
         "two callbacks of a batch are swapped",
-        "live_items/src/items.rt",
+        "live_callbacks/src/items.rt",
         "        self.queue.take_waiting(batch);\n",
         "        self.queue.take_waiting(batch);\n        let one = batch.pop();\n        let two = batch.pop();\n"
         "        if let Some(mut one) = one {\n            if let Some(mut two) = two {\n"
@@ -167,49 +167,49 @@ BUGS = [
     ),
     (
         "a worker loses the record of what it runs",
-        "live_items/src/running.rt",
+        "live_callbacks/src/running.rt",
         "        store_run(table, &mut seat, cell);\n",
         "",
     ),
     (
         "a callback gets another word",
-        "live_items/src/running.rt",
+        "live_callbacks/src/running.rt",
         "let first = load_payload(table, seat, cell, 0);",
         "let first = load_payload(table, seat, cell, 1);",
     ),
     (
         "what has run is not counted",
-        "live_reclaim/src/run.rt",
+        "live_callbacks/src/run.rt",
         "    store_finished(table, seat, queue, finished + 1);\n",
         "",
     ),
     (
         "tickets are told from 0",
-        "live_reclaim/src/run.rt",
+        "live_callbacks/src/run.rt",
         "        ticket: Ticket(finished + 1),",
         "        ticket: Ticket(finished),",
     ),
     (
         "a poll is early by one grace period",
-        "live_grace/src/cookie.rt",
+        "live_waits/src/cookie.rt",
         "    let seq = load_seq(table, seat);\n    is_past(",
         "    let seq = load_seq(table, seat) + 2;\n    is_past(",
     ),
     (
         "a barrier looks at one queue",
-        "live_barrier/src/barring.rt",
+        "live_waits/src/barring.rt",
         "for queue in 0..table.queues {",
         "for queue in 0..1usize {",
     ),
     (
         "a barrier notes one queue",
-        "live_barrier/src/barring.rt",
+        "live_waits/src/barring.rt",
         "for queue in 1..table.queues {",
         "for queue in 1..1usize {",
     ),
     (
         "counts leave out a record",
-        "live_status/src/counting.rt",
+        "live_waits/src/counting.rt",
         "for cell in 0..table.pool {",
         "for cell in 1..table.pool {",
     ),
@@ -333,7 +333,7 @@ BUGS = [
     ),
     (
         "an ask for a poll keeps a record",
-        "live_grace/src/cookie.rt",
+        "live_waits/src/cookie.rt",
         "    let cookie = cookie_of(seq)?;\n",
         "    let _kept = live_words::take_cell(table, seat, 0, 1);\n    let cookie = cookie_of(seq)?;\n",
     ),
@@ -348,7 +348,7 @@ BUGS = [
     ),
     (
         "a poll notes the first chain",
-        "live_grace/src/cookie.rt",
+        "live_waits/src/cookie.rt",
         "    is_past(cookie.cookie, seq)\n",
         "    live_words::store_note(table, seat, 0, 9);\n    is_past(cookie.cookie, seq)\n",
     ),

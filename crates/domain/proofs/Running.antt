@@ -1,6 +1,6 @@
 -- What a worker keeps, and what it has run.
 use Rattle.domain.proofs.Cited.{Gv, Bool, true, false, ◌≡◌, ◌≢◌, ℕ, zero, suc, ◌+◌, ◌<◌, ◌≤◌, List, [], ◌∷◌, ◌++◌, length, reverse, append_assoc, sym, refl, ap, ◌∙◌, subst, arith, inl, inr, ⊎_elim, ◌==◌, some, some-injective, eqb_tells, get_elem?, length-append, reverse-append, at_longer, Me, Seat, ObjectId, In, Item, Ripe, Finished, LiveEvent, Close, Log, Begins, HaveEnded, HaveRun, IsLiveRun, line_of, state_of, begins_trans, grows_log, has_since, line_grows, Look, Loaded, Stored, View, closed_at, finished_at, queued_at, work_at, Wrote, bare, Sizes, IsKnown, Keeps, Went, looked_view, IsAt, CountsQueued, InOrder, IsPlaced, JobValue, AreRunAs, IsRunAs, Lists}
-pub use Rattle.live_reclaim.proofs.Lemmas.{all_and, all_later, due_later}
+pub use Rattle.live_callbacks.proofs.Lemmas.{all_and, all_later, due_later}
 use Rattle.domain.specs.declared.worker_end.Stop.{Stop}
 use Rattle.domain.specs.declared.working.Outcome.{Outcome}
 use Rattle.domain.specs.declared.working.Outcome.TheVariants.{Ran, Nothing}

@@ -7,7 +7,7 @@ use Rattle.live_words.specs.live_rule.declared.view.Sizes.{Sizes}
 use Rattle.live_words.specs.live_rule.declared.view.View.{View}
 use Rattle.live_read.specs.declared.caller.Caller.{Ghosts}
 use Rattle.live_read.specs.Hearing.{IsAfter}
-use Rattle.live_barrier.specs.Barrier.{AreNoted, AreReached, HaveAllRun, HaveRunAsCounted, WasLess}
+use Rattle.live_waits.specs.Barrier.{AreNoted, AreReached, HaveAllRun, HaveRunAsCounted, WasLess}
 
 -- The barrier loaded how many each queue was given, before all else that it loaded, and as many of each queue have their
 -- Run in what its caller hears of then. So has all that was queued in `asked`, a log that comes after all that the

@@ -11,13 +11,13 @@ use Rattle.live_log.specs.Log.{Log, Begins}
 use Rattle.live_words.specs.live_rule.declared.view.Sizes.{Sizes}
 use Rattle.live_words.specs.live_rule.declared.view.View.{View}
 use Rattle.live_words.specs.live_rule.Seats.{lent_chains}
-use Rattle.live_words.specs.live_table.Rights.{object_in, own_in}
-use Rattle.live_words.specs.live_chains.Chains.{cut_of}
-use Rattle.live_items.specs.Retiring.{IsAfterAll, Queues}
+use Rattle.live_words.specs.live_rule.Rights.{object_in, own_in}
+use Rattle.live_words.specs.step_chains.Chains.{cut_of}
+use Rattle.live_callbacks.specs.Retiring.{IsAfterAll, Queues}
 use Rattle.live_read.specs.Hearing.{OnlyMakesLast}
 use Rattle.live_read.specs.declared.caller.Caller.{Ghosts}
 use Rattle.live_read.specs.declared.site.Site as site
-use Rattle.live_reclaim.specs.Refusing.{RefusesRetirement}
+use Rattle.live_callbacks.specs.Refusing.{RefusesRetirement}
 use Rattle.live_write.specs.declared.chain.Chain.{Chain}
 use Rattle.live_write.specs.declared.records.Owned.{Owned}
 use Rattle.live_write.specs.Chains.{Publishes, list_in, replace_by}

@@ -9,7 +9,7 @@ use Rattle.live_words.specs.live_rule.declared.view.Look.{Look}
 use Rattle.live_words.specs.live_rule.declared.view.Sizes.{Sizes}
 use Rattle.live_read.specs.declared.caller.Caller.{Ghosts}
 use Rattle.live_read.specs.Hearing.{IsAfter}
-use Rattle.live_status.specs.Status.{Stalls}
+use Rattle.live_waits.specs.Status.{Stalls}
 
 module _ (qsbr : Bool) (allows : Log → LiveEvent → Type 0) (seen heard : Log) (old new : List Log) (log : Log) where
   -- the sequence number was loaded once, at the log, after all that had been seen and heard of

@@ -12,11 +12,11 @@ use Rattle.live_words.specs.live_rule.declared.view.Look.TheVariants.{Loaded, St
 use Rattle.live_words.specs.live_rule.declared.view.Sizes.{Sizes}
 use Rattle.live_words.specs.live_rule.declared.view.View.{View}
 use Rattle.live_words.specs.live_rule.Places.{finished_at, queued_at, work_at}
-use Rattle.live_words.specs.live_table.Steps.{Keeps}
+use Rattle.live_words.specs.live_rule.Steps.{Keeps}
 use Rattle.live_read.specs.declared.caller.Caller.{Ghosts}
-use Rattle.live_items.specs.Items.{InOrder, JobValue}
-use Rattle.live_reclaim.specs.Batches.{Lists}
-use Rattle.live_reclaim.specs.Working.{IsEmptied}
+use Rattle.live_callbacks.specs.Items.{InOrder, JobValue}
+use Rattle.live_callbacks.specs.Batches.{Lists}
+use Rattle.live_callbacks.specs.Working.{IsEmptied}
 use Rattle.domain.specs.declared.working.Outcome.{Outcome}
 use Rattle.domain.specs.declared.working.Outcome.TheVariants.{Ran, Nothing}
 use Rattle.domain.specs.declared.working.Outcome.TheVariants as outcome

@@ -1,7 +1,7 @@
 //! What a program calls to wait until all that was queued has run.
 
 ghost use Rattle.std.specs.Prelude.{◌≡◌, ◌++◌, IsTrue, List};
-ghost use Rattle.live_barrier.specs.Barrier.{AreNoted, HaveRunAsCounted, WereGiven};
+ghost use Rattle.live_waits.specs.Barrier.{AreNoted, HaveRunAsCounted, WereGiven};
 ghost use Rattle.live_read.specs.Hearing.{IsAfter, Stays};
 ghost use Rattle.domain.specs.Barriers.{Barred, HearsOfRuns, IsMarked, IsReachedBy};
 ghost use Rattle.live_words.specs.live_rule.declared.view.Look.{Look};
@@ -9,9 +9,9 @@ ghost use Rattle.live_words.specs.live_rule.declared.view.Look.{Look};
 use crate::domain::Domain;
 use crossbeam_utils::Backoff;
 use gp_memb::GracePlan;
-use live_barrier::BarrierMark;
+use live_callbacks::Deleter;
 use live_read::{Caller, Site};
-use live_reclaim::Deleter;
+use live_waits::BarrierMark;
 use live_words::ChainRule;
 use std::sync::Wait;
 
@@ -26,7 +26,7 @@ impl<P: GracePlan + Drop, K: ChainRule, B: Site, D: Deleter> Domain<P, K, B, D> 
         ensures same { Stays W.Caller caller.old caller.new × (W.loads caller.new ≡ W.loads caller.old) }
     {
         let mut seat = caller.tell(&self.table);
-        let mark = live_barrier::barrier_start(&self.table, &mut seat);
+        let mark = live_waits::barrier_start(&self.table, &mut seat);
         caller.learn(&self.table, seat);
         mark
     }
@@ -44,7 +44,7 @@ impl<P: GracePlan + Drop, K: ChainRule, B: Site, D: Deleter> Domain<P, K, B, D> 
         ensures same { Stays W.Caller caller.old caller.new × (W.loads caller.new ≡ W.loads caller.old) }
     {
         let mut seat = caller.tell(&self.table);
-        let passed = live_barrier::barrier_done(&self.table, &mut seat, mark);
+        let passed = live_waits::barrier_done(&self.table, &mut seat, mark);
         caller.learn(&self.table, seat);
         passed
     }

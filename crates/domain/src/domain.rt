@@ -5,20 +5,20 @@ ghost use Rattle.std.specs.Arc.{arc_value};
 ghost use Rattle.rcu_model.specs.declared.refusal.Refusal.TheVariants.{Exhausted, NoSlot};
 ghost use Rattle.poll_cookie.specs.Cookie.{cookie_for};
 ghost use Rattle.live_log.specs.Log.{Begins, HaveEnded, seq_of};
-ghost use Rattle.live_words.specs.live_table.Steps.{Keeps};
+ghost use Rattle.live_words.specs.live_rule.Steps.{Keeps};
 ghost use Rattle.live_read.specs.Hearing.{FindsNothing, IsAfter, IsAsBefore, Stays};
 ghost use Rattle.live_read.specs.Holding.{log_of};
 ghost use Rattle.live_read.specs.Registering.{FindsAllClaimed, TakesOne};
-ghost use Rattle.live_grace.specs.Answers.{EndedByThen};
+ghost use Rattle.live_waits.specs.Answers.{EndedByThen};
 ghost use Rattle.domain.specs.Waiting.{LoadedOnce, Synchronized, IsExhausted};
 
 use crate::grace_lock::GraceLock;
 use crate::queue::Queue;
 use callback_queue::Callback;
 use gp_memb::GracePlan;
-use live_grace::{LiveCookie, ask};
+use live_callbacks::Deleter;
 use live_read::{Caller, Handle, Reader, Site};
-use live_reclaim::Deleter;
+use live_waits::{LiveCookie, ask};
 use live_words::{ChainRule, LiveSeat, LiveTable};
 use rcu_model::Refusal;
 use std::sync::{Arc, Mutex, Wait};
@@ -117,7 +117,7 @@ impl<P: GracePlan + Drop, K: ChainRule, B: Site, D: Deleter> Domain<P, K, B, D> 
         ensures caller { FindsNothing W.Caller caller.old caller.new }
     {
         let mut seat = caller.tell(&self.table);
-        let cookie = live_grace::start_poll(&self.table, &mut seat);
+        let cookie = live_waits::start_poll(&self.table, &mut seat);
         caller.learn(&self.table, seat);
         cookie
     }
@@ -134,7 +134,7 @@ impl<P: GracePlan + Drop, K: ChainRule, B: Site, D: Deleter> Domain<P, K, B, D> 
         ensures caller { FindsNothing W.Caller caller.old caller.new }
     {
         let mut seat = caller.tell(&self.table);
-        let past = live_grace::poll(&self.table, &mut seat, cookie);
+        let past = live_waits::poll(&self.table, &mut seat, cookie);
         caller.learn(&self.table, seat);
         past
     }

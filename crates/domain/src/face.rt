@@ -3,7 +3,7 @@
 
 ghost use Rattle.std.specs.Prelude.{◌≡◌, ◌+◌, ◌%◌, IfErr, IfOk};
 ghost use Rattle.live_read.specs.Hearing.{FindsNothing, OnlyHears, Stays};
-ghost use Rattle.live_reclaim.specs.Refusing.{RefusesRetirement};
+ghost use Rattle.live_callbacks.specs.Refusing.{RefusesRetirement};
 ghost use Rattle.domain.specs.Barriers.{Barred};
 ghost use Rattle.domain.specs.Waiting.{Synchronized, IsExhausted};
 ghost use Rattle.domain.specs.Retiring.{RetiresCut};
@@ -11,8 +11,8 @@ ghost use Rattle.domain.specs.Retiring.{RetiresCut};
 use crate::domain::Domain;
 use callback_queue::Ticket;
 use gp_memb::GracePlan;
+use live_callbacks::Deleter;
 use live_read::{Caller, Site};
-use live_reclaim::Deleter;
 use live_words::ChainRule;
 use live_write::Unlinked;
 use rcu_model::Refusal;

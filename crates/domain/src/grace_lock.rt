@@ -3,11 +3,11 @@
 ghost use Rattle.std.specs.Prelude.{◌≡◌, [], ◌∷◌};
 ghost use Rattle.live_log.specs.Log.{Begins, HaveEnded, IsLiveRun};
 ghost use Rattle.live_words.specs.live_rule.declared.rights.GraceRight.TheVariants.{Rests};
-ghost use Rattle.live_words.specs.live_table.Steps.{Keeps};
+ghost use Rattle.live_words.specs.live_rule.Steps.{Keeps};
 
 use gp_memb::GracePlan;
-use live_grace::{GraceWriter, LiveAsk};
 use live_read::Site;
+use live_waits::{GraceWriter, LiveAsk};
 use live_words::{ChainRule, LiveSeat, LiveTable};
 use std::marker::PhantomData;
 use std::sync::Wait;

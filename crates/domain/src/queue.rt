@@ -7,9 +7,8 @@ ghost use Rattle.live_words.specs.live_rule.declared.rights.RecordRight.TheVaria
 
 use crossbeam_utils::sync::{Parker, Unparker};
 use gp_memb::GracePlan;
-use live_items::Items;
+use live_callbacks::{Deleter, Items};
 use live_read::Site;
-use live_reclaim::Deleter;
 use live_words::{ChainRule, LiveSeat, LiveTable};
 use std::alloc::{AllocError, Global};
 use std::sync::{Mutex, MutexGuard, Wait};

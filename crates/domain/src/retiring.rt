@@ -4,7 +4,7 @@ ghost use Rattle.std.specs.Prelude.{◌≡◌, ◌+◌, ◌%◌, ◌<◌, IfErr,
 ghost use Rattle.rcu_model.specs.declared.refusal.Refusal.TheVariants.{NoPlace};
 ghost use Rattle.live_log.specs.Log.{closed_of};
 ghost use Rattle.live_read.specs.Hearing.{IsAfter, OnlyHears};
-ghost use Rattle.live_reclaim.specs.Refusing.{RefusesRetirement};
+ghost use Rattle.live_callbacks.specs.Refusing.{RefusesRetirement};
 ghost use Rattle.domain.specs.Retiring.{CutsAndRetires, MakesLastIn, RefusesAt, ReplacesAndRetires, RetiresCut};
 ghost use Rattle.live_write.specs.Calls.{MayCut, MayReplace};
 
@@ -12,8 +12,8 @@ use crate::domain::Domain;
 use crate::writing::Chain;
 use callback_queue::Ticket;
 use gp_memb::GracePlan;
+use live_callbacks::{Deleter, refusal_of};
 use live_read::{Caller, Site};
-use live_reclaim::{Deleter, refusal_of};
 use live_words::ChainRule;
 use live_write::{Owned, Unlinked};
 use rcu_model::Refusal;

@@ -4,14 +4,14 @@ ghost use Rattle.std.specs.Prelude.{◌≡◌, ◌≤◌, ◌++◌, IfErr, IfOk}
 ghost use Rattle.rcu_model.specs.declared.refusal.Refusal.TheVariants.{Memory};
 ghost use Rattle.live_log.specs.Log.{seq_of};
 ghost use Rattle.live_read.specs.Hearing.{IsAsBefore, Stays};
-ghost use Rattle.live_status.specs.Status.{Counted, Looks};
+ghost use Rattle.live_waits.specs.Status.{Counted, Looks};
 ghost use Rattle.domain.specs.Waiting.{LoadsSeq, StallsFor};
 
 use crate::domain::Domain;
 use gp_memb::GracePlan;
+use live_callbacks::Deleter;
 use live_read::{Caller, Site};
-use live_reclaim::Deleter;
-use live_status::{Counts, count_all};
+use live_waits::{Counts, count_all};
 use live_words::ChainRule;
 use rcu_model::Refusal;
 use std::alloc::Global;
@@ -54,7 +54,7 @@ impl<P: GracePlan + Drop, K: ChainRule, B: Site, D: Deleter> Domain<P, K, B, D> 
         ensures same { Stays W.Caller caller.old caller.new }
     {
         let mut seat = caller.tell(&self.table);
-        let slots = live_status::stalled(alloc, &self.table, &mut seat)?;
+        let slots = live_waits::stalled(alloc, &self.table, &mut seat)?;
         caller.learn(&self.table, seat);
         Ok(slots)
     }

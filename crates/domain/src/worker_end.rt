@@ -2,7 +2,7 @@
 
 use call_rcu_worker::Finished;
 use callback_queue::Item;
-use live_items::Job;
+use live_callbacks::Job;
 use live_read::Site;
 
 /// Why a worker stopped.

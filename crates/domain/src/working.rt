@@ -2,10 +2,10 @@
 
 ghost use Rattle.std.specs.Prelude.{◌≡◌, ◌≢◌, ℕ, ◌+◌, ◌-◌, ◌<◌, ◌≤◌, [], IfErr, IfOk, length, reverse, vec_capacity, vec_len};
 ghost use Rattle.live_log.specs.Log.{IsLiveRun, line_of};
-ghost use Rattle.live_words.specs.live_table.Steps.{IsKnown};
-ghost use Rattle.live_items.specs.Items.{InOrder};
-ghost use Rattle.live_reclaim.specs.Batches.{IsDue, Lists, WorksFor};
-ghost use Rattle.live_reclaim.specs.Working.{IsEmptied};
+ghost use Rattle.live_words.specs.live_rule.Steps.{IsKnown};
+ghost use Rattle.live_callbacks.specs.Items.{InOrder};
+ghost use Rattle.live_callbacks.specs.Batches.{IsDue, Lists, WorksFor};
+ghost use Rattle.live_callbacks.specs.Working.{IsEmptied};
 ghost use Rattle.domain.specs.declared.worker_end.Stop.TheVariants as stopped;
 ghost use Rattle.domain.specs.declared.working.Outcome.TheVariants as outcome;
 ghost use Rattle.domain.specs.Working.{FoundUsedUp, GoesOn, HasMore, IsRound, IsWhole, Rounds};
@@ -16,10 +16,9 @@ use call_rcu_worker::Finished;
 use callback_queue::Item;
 use crossbeam_utils::Backoff;
 use gp_memb::GracePlan;
-use live_grace::ask;
-use live_items::Job;
+use live_callbacks::{Deleter, Job, is_emptied, run_next};
 use live_read::Site;
-use live_reclaim::{Deleter, is_emptied, run_next};
+use live_waits::ask;
 use live_words::{ChainRule, LiveSeat};
 use rcu_model::Refusal;
 use std::sync::Wait;

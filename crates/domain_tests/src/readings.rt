@@ -9,9 +9,9 @@ ghost use Rattle.rcu_model.specs.Sets.{first_of};
 ghost use Rattle.live_log.specs.declared.event.LiveEvent.TheVariants.{Object};
 ghost use Rattle.live_log.specs.declared.event.ObjectEvent.TheVariants.{Push};
 ghost use Rattle.live_log.specs.Log.{Begins, Has, IsLiveRun, Log, objects_of, payload_of};
-ghost use Rattle.live_fit.specs.declared.Reading.TheVariants.{First, Next, Touch};
-ghost use Rattle.live_fit.specs.declared.Mark.TheVariants.{Read};
-ghost use Rattle.live_fit.specs.Fit.{Readings, later};
+ghost use Rattle.live_log.specs.declared.reading.Reading.TheVariants.{First, Next, Touch};
+ghost use Rattle.live_log.specs.declared.reading.Mark.TheVariants.{Read};
+ghost use Rattle.live_log.specs.Fit.{Readings, later};
 ghost use Rattle.domain.specs.live_read.Holding.{log_of};
 ghost use Rattle.domain.specs.live_read.Readings.{HasRead};
 

@@ -6,8 +6,8 @@ mod making;
 
 use gp_memb::MembPlan;
 use gp_qsbr::QsbrPlan;
-use live_grace::GracePeriods;
 use live_read::ReaderCore;
+use live_waits::GracePeriods;
 use live_words::AnyChain;
 pub use making::{Domain, new_domain};
 

@@ -3,12 +3,12 @@
 ghost use Rattle.std.specs.Prelude.{◌≡◌, ◌≢◌, ◌⊎◌, ◌<◌, ◌≤◌, [], true, false, IfErr, IfOk};
 ghost use Rattle.std.specs.Arc.{arc_value};
 ghost use Rattle.rcu_model.specs.declared.refusal.Refusal.TheVariants.{Memory, NoSlot};
-ghost use Rattle.live_words.specs.live_groups.Groups.{IsClaimed};
+ghost use Rattle.live_words.specs.step_readers.Groups.{IsClaimed};
 ghost use Rattle.live_read.specs.Registering.{FindsAllClaimed, TakesOne};
 
 use gp_memb::GracePlan;
-use live_grace::GracePeriods;
 use live_read::ReaderCore;
+use live_waits::GracePeriods;
 use live_words::{ChainRule, LiveSeat, LiveTable};
 use rcu_model::Refusal;
 use std::alloc::Global;

@@ -15,3 +15,4 @@ pub use Rattle.live_log.proofs.Falling.{each_falls}
 pub use Rattle.live_log.proofs.Mapping.{free_takes, keyed_maps, tabled_maps}
 pub use Rattle.live_log.proofs.Tabling.{is_noted, left_then, reserved_free, reserved_linked, unnoted_free, noted_or_ended, left_stays, linked_or_replaced, directory_alone, directory_there}
 pub use Rattle.live_log.proofs.Freeing.{beside, gone, left_is_freed, linked_between, named_stays_free, stays_free}
+pub use Rattle.live_log.proofs.Readings.{log_more}

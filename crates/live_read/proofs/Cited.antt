@@ -2,33 +2,31 @@
 pub use Rattle.atomic_table.specs.Table.{Me}
 pub use Rattle.atomic_table.specs.declared.shared.Seat.{Seat}
 pub use Rattle.gp_memb.specs.Plan.{bit_of}
-pub use Rattle.live_fit.proofs.Lemmas.{log_more}
-pub use Rattle.live_fit.specs.Fit.{AreFitted, FitIn, HoldsIn, IsSoIn, Readings, ReadsOn, StartsHeld, StaysOpen, later, log_in}
-pub use Rattle.live_fit.specs.declared.Reading.{Reading}
-pub use Rattle.live_fit.specs.declared.Reading.TheVariants.{First, Next, Touch}
-pub use Rattle.live_log.proofs.Lemmas.{begins_trans, bounded, first_linked, inside_open, is_open, note_stays, open_inside, run_of, was_later, was_used}
+pub use Rattle.live_log.proofs.Lemmas.{begins_trans, bounded, first_linked, inside_open, is_open, log_more, note_stays, open_inside, run_of, was_later, was_used}
+pub use Rattle.live_log.specs.Fit.{AreFitted, FitIn, HoldsIn, IsSoIn, Readings, ReadsOn, StartsHeld, StaysOpen, later, log_in}
 pub use Rattle.live_log.specs.Log.{Begins, Follows, Has, IsBound, IsLiveRun, IsOpenSection, Log, Objects, WasLinked, objects_of, open_of, record_of, section, sections_of, seq_of, state_of}
 pub use Rattle.live_log.specs.declared.callback_id.CallbackId.{CallbackId}
 pub use Rattle.live_log.specs.declared.event.LiveEvent.{LiveEvent}
 pub use Rattle.live_log.specs.declared.event.LiveEvent.TheVariants.{Close}
-pub use Rattle.live_words.proofs.live_readers.Lemmas.{copied_before, opened_after, phase_copied}
-pub use Rattle.live_words.proofs.live_rule.Lemmas.{has_more}
-pub use Rattle.live_words.proofs.live_table.Lemmas.{found_left, found_right, stores_then}
-pub use Rattle.live_words.specs.live_chains.Chains.{IsInSection, IsNext, MayRead}
-pub use Rattle.live_words.specs.live_groups.Groups.{GivesSlot}
-pub use Rattle.live_words.specs.live_readers.Sections.{Announced, Closed, CopiedBefore, Nested, Opened, announces, opens}
+pub use Rattle.live_log.specs.declared.reading.Reading.{Reading}
+pub use Rattle.live_log.specs.declared.reading.Reading.TheVariants.{First, Next, Touch}
+pub use Rattle.live_words.proofs.live_rule.Lemmas.{found_left, found_right, has_more, stores_then}
+pub use Rattle.live_words.proofs.step_readers.Lemmas.{copied_before, opened_after, phase_copied}
 pub use Rattle.live_words.specs.live_rule.Objects.{ref}
 pub use Rattle.live_words.specs.live_rule.Places.{group_at, slot_at}
 pub use Rattle.live_words.specs.live_rule.Readers.{Fits, IsClosed}
-pub use Rattle.live_words.specs.live_rule.Steps.{Wrote}
+pub use Rattle.live_words.specs.live_rule.Rights.{count_in, word_in}
+pub use Rattle.live_words.specs.live_rule.Seen.{Wrote}
+pub use Rattle.live_words.specs.live_rule.Steps.{IsLater, IsNow, Keeps, Went, looked_view, stores_in}
 pub use Rattle.live_words.specs.live_rule.declared.rights.SlotRight.{SlotRight}
 pub use Rattle.live_words.specs.live_rule.declared.rights.SlotRight.TheVariants.{Owns}
 pub use Rattle.live_words.specs.live_rule.declared.view.Look.{Look}
 pub use Rattle.live_words.specs.live_rule.declared.view.Look.TheVariants.{Loaded, Stored}
 pub use Rattle.live_words.specs.live_rule.declared.view.Sizes.{Sizes}
 pub use Rattle.live_words.specs.live_rule.declared.view.View.{View}
-pub use Rattle.live_words.specs.live_table.Rights.{count_in, word_in}
-pub use Rattle.live_words.specs.live_table.Steps.{IsLater, IsNow, Keeps, Went, looked_view, stores_in}
+pub use Rattle.live_words.specs.step_chains.Chains.{IsInSection, IsNext, MayRead}
+pub use Rattle.live_words.specs.step_readers.Groups.{GivesSlot}
+pub use Rattle.live_words.specs.step_readers.Sections.{Announced, Closed, CopiedBefore, Nested, Opened, announces, opens}
 pub use Rattle.rcu_model.proofs.Lemmas.{has_section_in, in_left, in_sections}
 pub use Rattle.rcu_model.specs.Machine.{IsOpen}
 pub use Rattle.rcu_model.specs.Sets.{first_of}

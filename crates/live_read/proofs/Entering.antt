@@ -1,7 +1,7 @@
 -- What the steps on a reader's word tell of its section.
 use Rattle.gp_memb.specs.declared.plan.GracePlan as plan
 use Rattle.live_read.proofs.Cited.{◌≡◌, ◌≢◌, ℕ, zero, suc, ◌+◌, ◌-◌, Bool, true, false, [], Ok, sym, refl, ap, ◌∙◌, subst, arith, true≢false, Option, none, some, unary_clauses, Me, Wide, count_of, entered_of, left_of, entered_of-nests, entered_of-opens, left_of-nests, LiveEvent, has_section_in, Log, IsOpenSection, open_of, sections_of, state_of, is_open, open_inside, CallbackId, View, Fits, IsClosed, count_in, Announced, Closed, CopiedBefore, Nested, Opened, announces, opens}
-use Rattle.live_words.specs.live_readers.Sections.{Stored}
+use Rattle.live_words.specs.step_readers.Sections.{Stored}
 use Rattle.live_read.specs.declared.reader_core.ReaderCore.{ReaderCore}
 use Rattle.live_read.specs.Holding.{KeepsHeld, log_of, ordinal, section_of}
 use Rattle.live_read.specs.Sections.{IsIn, Enters, Leaves, GoesOnline, Announces}

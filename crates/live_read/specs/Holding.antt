@@ -4,7 +4,7 @@ use Rattle.std.specs.Prelude.{◌≡◌, ℕ, ◌<◌}
 use Rattle.rcu_model.specs.declared.event.ObjectId.{ObjectId}
 use Rattle.rcu_model.specs.declared.event.SectionId.{SectionId}
 use Rattle.live_log.specs.Log.{Log, WasLinked, section, record_of}
-use Rattle.live_words.specs.live_table.Rights.{count_in}
+use Rattle.live_words.specs.live_rule.Rights.{count_in}
 use Rattle.live_read.specs.declared.reader_core.ReaderCore.{ReaderCore}
 
 module _ {P K : Type 0} {g : plan.Ghosts P} where

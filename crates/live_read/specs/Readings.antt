@@ -4,9 +4,9 @@ use Rattle.std.specs.Prelude.{◌≡◌, ◌∷◌, Some}
 use Rattle.rcu_model.specs.declared.event.ObjectId.{ObjectId}
 use Rattle.rcu_model.specs.declared.event.SectionId.{SectionId}
 use Rattle.live_log.specs.Log.{Log}
-use Rattle.live_fit.specs.declared.Reading.{Reading}
-use Rattle.live_fit.specs.declared.Mark.TheVariants.{Read}
-use Rattle.live_fit.specs.Fit.{FitIn, HoldsIn, Readings, found_by, later}
+use Rattle.live_log.specs.declared.reading.Reading.{Reading}
+use Rattle.live_log.specs.declared.reading.Mark.TheVariants.{Read}
+use Rattle.live_log.specs.Fit.{FitIn, HoldsIn, Readings, found_by, later}
 use Rattle.live_read.specs.declared.reader_core.ReaderCore.{ReaderCore}
 use Rattle.live_read.specs.Holding.{log_of, section_of}
 use Rattle.live_read.specs.Sections.{IsIn}

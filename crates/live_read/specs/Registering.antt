@@ -16,9 +16,9 @@ use Rattle.live_words.specs.live_rule.declared.view.View.{View}
 use Rattle.live_words.specs.live_rule.declared.rights.SlotRight.{SlotRight}
 use Rattle.live_words.specs.live_rule.Places.{group_at}
 use Rattle.live_words.specs.live_rule.Readers.{IsClosed}
-use Rattle.live_words.specs.live_table.Rights.{count_in}
-use Rattle.live_words.specs.live_table.Steps.{FoundIn, Went, stores_in}
-use Rattle.live_words.specs.live_groups.Groups.{DiffersAt, IsClaimed}
+use Rattle.live_words.specs.live_rule.Rights.{count_in}
+use Rattle.live_words.specs.live_rule.Steps.{FoundIn, Went, stores_in}
+use Rattle.live_words.specs.step_readers.Groups.{DiffersAt, IsClaimed}
 use Rattle.live_read.specs.declared.reader_core.ReaderCore.{ReaderCore}
 
 -- the bit of slot r was found set in its group word

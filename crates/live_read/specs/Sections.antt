@@ -8,7 +8,7 @@ use Rattle.live_log.specs.declared.event.LiveEvent.{LiveEvent}
 use Rattle.rcu_model.specs.Machine.{IsOpen}
 use Rattle.live_log.specs.Log.{Log, IsOpenSection, open_of, state_of}
 use Rattle.live_words.specs.live_rule.Readers.{IsClosed}
-use Rattle.live_words.specs.live_readers.Sections.{Announced, Closed, CopiedBefore, Nested, Opened, announces, opens}
+use Rattle.live_words.specs.step_readers.Sections.{Announced, Closed, CopiedBefore, Nested, Opened, announces, opens}
 use Rattle.live_read.specs.declared.reader_core.ReaderCore.{ReaderCore}
 use Rattle.live_read.specs.Holding.{KeepsHeld, log_of, ordinal, section_of}
 

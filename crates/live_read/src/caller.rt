@@ -152,7 +152,7 @@ impl<P: GracePlan, K: ChainRule, B: Site> Caller<B> for Reader<P, K, B> {
 
     ghost changes = { λ r. r.core.seat.me.0.changes };
 
-    ghost use Rattle.live_words.specs.live_table.Rights.{count_in};
+    ghost use Rattle.live_words.specs.live_rule.Rights.{count_in};
 
     ghost is_in = { λ r. IsIn r.core };
 

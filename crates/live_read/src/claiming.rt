@@ -2,7 +2,7 @@
 
 ghost use Rattle.std.specs.Prelude.{◌≡◌, ◌<◌, IfNone, IfSome, MatchBool};
 ghost use Rattle.gp_memb.specs.Plan.{bit_of};
-ghost use Rattle.live_words.specs.live_table.Steps.{Keeps};
+ghost use Rattle.live_words.specs.live_rule.Steps.{Keeps};
 ghost use Rattle.live_read.specs.Registering.{AllWereClaimed, Finds, Misses, WasClaimed};
 
 use gp_memb::GracePlan;

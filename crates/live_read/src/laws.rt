@@ -4,8 +4,8 @@ ghost use Rattle.std.specs.Prelude.{◌≡◌, ℕ, [], Option};
 ghost use Rattle.rcu_model.specs.declared.event.ObjectId.{ObjectId};
 ghost use Rattle.rcu_model.specs.declared.event.SectionId.{SectionId};
 ghost use Rattle.live_log.specs.Log.{Begins, IsLiveRun};
-ghost use Rattle.live_fit.specs.declared.Reading.TheVariants.{First, Next, Touch};
-ghost use Rattle.live_fit.specs.Fit.{HoldsIn, Readings, later};
+ghost use Rattle.live_log.specs.declared.reading.Reading.TheVariants.{First, Next, Touch};
+ghost use Rattle.live_log.specs.Fit.{HoldsIn, Readings, later};
 ghost use Rattle.live_read.specs.declared.reader_core.ReaderCore.{ReaderCore};
 ghost use Rattle.live_read.specs.Holding.{log_of, section_of};
 ghost use Rattle.live_read.specs.Readings.{HasRead, HasReadMore, HasReadNoMore};
@@ -13,7 +13,7 @@ ghost use Rattle.live_read.specs.Reads.{FindsFirst, FindsNext, Looks};
 ghost use Rattle.live_read.specs.Sections.{IsIn};
 
 use gp_memb::GracePlan;
-use live_fit::{fitted_goes_on, section_reads_on};
+use live_log::{fitted_goes_on, section_reads_on};
 use live_words::ChainRule;
 
 /// The readings of a section, put into the log that its reader has seen, are a run of the abstract machine: a section

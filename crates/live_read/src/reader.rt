@@ -5,7 +5,7 @@ ghost use Rattle.std.specs.Arc.{arc_value};
 ghost use Rattle.rcu_model.specs.declared.refusal.Refusal.TheVariants.{NoPlace, NotOpen};
 ghost use Rattle.reader_word.specs.declared.layout.Layout.TheVariants.{Wide};
 ghost use Rattle.reader_word.specs.Word.{count_of};
-ghost use Rattle.live_words.specs.live_table.Rights.{IsOwner, count_in, word_in};
+ghost use Rattle.live_words.specs.live_rule.Rights.{IsOwner, count_in, word_in};
 
 use crate::caller::Caller;
 use crate::held::Held;

@@ -5,7 +5,7 @@ ghost use Rattle.std.specs.Arc.{arc_value};
 ghost use Rattle.rcu_model.specs.declared.refusal.Refusal.TheVariants.{Busy, NoSlot};
 ghost use Rattle.live_log.specs.declared.event.LiveEvent.TheVariants.{Close};
 ghost use Rattle.live_log.specs.Log.{Begins, Has, IsLiveRun};
-ghost use Rattle.live_words.specs.live_table.Rights.{count_in};
+ghost use Rattle.live_words.specs.live_rule.Rights.{count_in};
 ghost use Rattle.live_read.specs.Hearing.{IsAfter, IsAsBefore, Stays};
 ghost use Rattle.live_read.specs.Holding.{log_of};
 ghost use Rattle.live_read.specs.Registering.{AllWereClaimed, Finds, FindsAllClaimed, IsGivenBack, LeavesFree, Misses, TakesOne};

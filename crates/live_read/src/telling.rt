@@ -3,7 +3,7 @@
 ghost use Rattle.std.specs.Prelude.{◌≡◌, [], ◌++◌};
 ghost use Rattle.live_log.specs.Log.{Begins};
 ghost use Rattle.live_words.specs.live_rule.Views.{bare};
-ghost use Rattle.live_words.specs.live_periods.Periods.{at_load};
+ghost use Rattle.live_words.specs.step_grace.Periods.{at_load};
 ghost use Rattle.live_read.specs.Hearing.{FindsNothing, IsAfter, IsAsBefore, Stays};
 
 use crate::caller::Caller;

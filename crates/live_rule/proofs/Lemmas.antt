@@ -5,3 +5,5 @@ pub use Rattle.live_rule.proofs.Stores.{PartStep, kept_part, After, ChainStep, O
 pub use Rattle.live_rule.proofs.Readers.{Quiet, quiet_same, heap_quiet, lines_quiet, chain_quiet, object_quiet, queue_quiet, work_quiet, SlotStep, GraceStep, slots_kept, grace_kept, own_slot, gained_slot, given_slot, claimed_bit, own_grace, low_stores, low_loads, Apart}
 pub use Rattle.live_rule.proofs.Splices.{Enters, heap_spliced, same_object_moved, free_cell, same_spot}
 pub use Rattle.live_rule.proofs.Seats.{tells, tells_changes, cuts_object, cuts_chains, cuts_lent, cuts_spare_queue, cuts_grace, joins_all, learns, learns_changes, takes_object, enters, starts_zero}
+pub use Rattle.live_rule.proofs.Chains.{alive_linked, unclaimed, all_known, claims_own, knows_first, knows_own, here, lows, goes_on}
+pub use Rattle.live_rule.proofs.Found.{found_left, found_right, stores_then}

@@ -3,8 +3,8 @@
 //! and record i begins at word 6 i + 128.
 
 ghost use Rattle.std.specs.Prelude.{◌≡◌, ◌<◌, IsTrue};
-ghost use Rattle.live_words.specs.live_table.Rights.{IsFresh, cell_in};
-ghost use Rattle.live_words.specs.live_table.Steps.{Keeps};
+ghost use Rattle.live_words.specs.live_rule.Rights.{IsFresh, cell_in};
+ghost use Rattle.live_words.specs.live_rule.Steps.{Keeps};
 
 use gp_memb::{GracePlan, MembPlan};
 use gp_qsbr::QsbrPlan;

@@ -2,8 +2,8 @@
 //! number is word 16, and the phase or number word 32.
 
 use gp_memb::MembPlan;
-use live_grace::{Answer, GraceWriter, ask, poll, start_poll};
 use live_log::AnyChain;
+use live_waits::{Answer, GraceWriter, ask, poll, start_poll};
 use live_words::LiveTable;
 
 #[test]

@@ -6,7 +6,7 @@ ghost use Rattle.rcu_model.specs.Sets.{In};
 ghost use Rattle.rcu_model.specs.declared.event.ObjectId.{ObjectId};
 ghost use Rattle.live_log.specs.Keys.{key_of, keyed, rank_of};
 ghost use Rattle.live_log.specs.Log.{IsLiveRun, record_of};
-ghost use Rattle.live_words.specs.live_table.Rights.{payload_in};
+ghost use Rattle.live_words.specs.live_rule.Rights.{payload_in};
 ghost use Rattle.live_write.specs.Chains.{list_in};
 
 use gp_memb::{GracePlan, MembPlan};

@@ -5,7 +5,7 @@ ghost use Rattle.std.specs.Prelude.{◌≡◌};
 
 use callback_queue::Ticket;
 use gp_memb::GracePlan;
-use live_items::Items;
+use live_callbacks::Items;
 use live_read::{Handle, Site};
 use live_words::{AnyChain, LiveTable};
 use live_write::{Chain, Owned, Unlinked};

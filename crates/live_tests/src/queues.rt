@@ -8,7 +8,7 @@ ghost use Rattle.live_words.specs.live_rule.Views.{first_view};
 use crate::plain;
 use callback_queue::Item;
 use gp_memb::{GracePlan, MembPlan};
-use live_items::{Items, Job};
+use live_callbacks::{Items, Job};
 use live_read::{Caller, Handle, Site};
 use live_words::{
     AnyChain, LiveSeat, LiveTable, end_work, free_work, hold_work, load_closed, load_finished,

@@ -2,7 +2,7 @@
 //! chain, no queue and four records: the chain's hold word is word 89 and its note word 90.
 
 ghost use Rattle.std.specs.Prelude.{◌≡◌, []};
-ghost use Rattle.live_words.specs.live_table.Steps.{Keeps};
+ghost use Rattle.live_words.specs.live_rule.Steps.{Keeps};
 
 use crate::plain;
 use gp_memb::GracePlan;

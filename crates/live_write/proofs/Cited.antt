@@ -9,16 +9,14 @@ pub use Rattle.live_log.specs.declared.event.LiveEvent.TheVariants.{ChainNote, O
 pub use Rattle.live_log.specs.declared.event.ObjectEvent.TheVariants.{Cut, Push, Replace}
 pub use Rattle.live_read.specs.Hearing.{IsAfter, IsAsBefore, OnlyMakesLast}
 pub use Rattle.live_read.specs.declared.caller.Caller.{Ghosts}
-pub use Rattle.live_words.proofs.live_chains.Lemmas.{note_same, there_after}
-pub use Rattle.live_words.proofs.live_rule.Lemmas.{begins_nothing}
-pub use Rattle.live_words.proofs.live_table.Lemmas.{found_left, found_right, stores_then}
-pub use Rattle.live_words.specs.live_chains.Chains.{IsBefore, IsNext, IsThere, MayNote, MayRead, MayWrite, Writes, cut_of, cut_view, head_after, push_of, replace_of, replaced_view}
-pub use Rattle.live_words.specs.live_periods.Periods.{LoadedSeq}
-pub use Rattle.live_words.specs.live_records.Records.{worded_view}
+pub use Rattle.live_words.proofs.live_rule.Lemmas.{begins_nothing, found_left, found_right, stores_then}
+pub use Rattle.live_words.proofs.step_chains.Lemmas.{note_same, there_after}
 pub use Rattle.live_words.specs.live_rule.Objects.{ref}
 pub use Rattle.live_words.specs.live_rule.Places.{cell_at, last_at}
+pub use Rattle.live_words.specs.live_rule.Rights.{AreAsKnown, IsFresh, IsListed, IsUnlinked, IsWriter, KnowsChains, cell_in, link_in, object_in, own_in, payload_in}
 pub use Rattle.live_words.specs.live_rule.Seats.{but_object, heard_view, lent_chains, object_alone, own_chain, taken_view}
-pub use Rattle.live_words.specs.live_rule.Steps.{Wrote}
+pub use Rattle.live_words.specs.live_rule.Seen.{Wrote}
+pub use Rattle.live_words.specs.live_rule.Steps.{IsLater, IsNow, Keeps, Went}
 pub use Rattle.live_words.specs.live_rule.declared.rights.ChainRight.{ChainRight}
 pub use Rattle.live_words.specs.live_rule.declared.rights.RecordRight.{RecordRight}
 pub use Rattle.live_words.specs.live_rule.declared.rights.RecordRight.TheVariants.{Drawn, Fresh, Unlinked}
@@ -26,8 +24,9 @@ pub use Rattle.live_words.specs.live_rule.declared.view.Look.{Look}
 pub use Rattle.live_words.specs.live_rule.declared.view.Look.TheVariants.{Loaded, Stored}
 pub use Rattle.live_words.specs.live_rule.declared.view.Sizes.{Sizes}
 pub use Rattle.live_words.specs.live_rule.declared.view.View.{View}
-pub use Rattle.live_words.specs.live_table.Rights.{AreAsKnown, IsFresh, IsListed, IsUnlinked, IsWriter, KnowsChains, cell_in, link_in, object_in, own_in, payload_in}
-pub use Rattle.live_words.specs.live_table.Steps.{IsLater, IsNow, Keeps, Went}
+pub use Rattle.live_words.specs.step_chains.Chains.{IsBefore, IsNext, IsThere, MayNote, MayRead, MayWrite, Writes, cut_of, cut_view, head_after, push_of, replace_of, replaced_view}
+pub use Rattle.live_words.specs.step_grace.Periods.{LoadedSeq}
+pub use Rattle.live_words.specs.step_records.Records.{worded_view}
 pub use Rattle.rcu_model.proofs.Lemmas.{Once, Tells, follows_has, none_some, object_tells, some_is}
 pub use Rattle.rcu_model.specs.Sets.{In, IsPlace, first_of, follows, next_of, replaced, same_object, without_object}
 pub use Rattle.rcu_model.specs.declared.event.ObjectId.{ObjectId}

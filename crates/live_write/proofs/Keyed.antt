@@ -1,6 +1,6 @@
 -- A writer under the rule of keyed chains shows what the rule asks by its list and the notes that it has seen.
 use Rattle.live_write.proofs.Cited.{Bool, ◌≡◌, ◌≢◌, ◌<◌, subst, ObjectId, In, LiveEvent, key_of, rank_of, Falls, keyed, Log, IsLiveRun, record_of, each_falls, View, IsListed, IsWriter, own_in, payload_in, MayWrite, cut_of}
-use Rattle.live_words.proofs.live_chains.Lemmas as chains
+use Rattle.live_words.proofs.step_chains.Lemmas as chains
 use Rattle.live_write.specs.Chains.{MayPublish, list_in, push_by, replace_by}
 
 -- what a writer may write by what it knows alone it may publish, whoever calls

@@ -15,9 +15,9 @@ use Rattle.live_words.specs.live_rule.declared.view.Sizes.{Sizes}
 use Rattle.live_words.specs.live_rule.declared.view.View.{View}
 use Rattle.live_words.specs.live_rule.Places.{cell_at, hold_at}
 use Rattle.live_words.specs.live_rule.Seats.{lent_chains}
-use Rattle.live_words.specs.live_table.Rights.{cell_in, object_in, own_in}
-use Rattle.live_words.specs.live_table.Steps.{IsLater, Keeps, Went, looked_view}
-use Rattle.live_words.specs.live_chains.Chains.{cut_of}
+use Rattle.live_words.specs.live_rule.Rights.{cell_in, object_in, own_in}
+use Rattle.live_words.specs.live_rule.Steps.{IsLater, Keeps, Went, looked_view}
+use Rattle.live_words.specs.step_chains.Chains.{cut_of}
 use Rattle.live_read.specs.Hearing.{IsAfter}
 use Rattle.live_read.specs.declared.caller.Caller.{Ghosts}
 use Rattle.live_write.specs.Chains.{MayPublish, MayReserve, Publishes, list_in, push_by, replace_by}

@@ -7,8 +7,8 @@ use Rattle.live_log.specs.declared.event.LiveEvent.TheVariants.{ChainNote, Objec
 use Rattle.live_log.specs.declared.event.ObjectEvent.TheVariants.{Push, Replace}
 use Rattle.live_log.specs.Log.{Log, Begins, IsLiveRun, record_of, state_of}
 use Rattle.live_words.specs.live_rule.declared.view.View.{View}
-use Rattle.live_words.specs.live_table.Rights.{AreAsKnown, own_in, object_in, cell_in, payload_in}
-use Rattle.live_words.specs.live_chains.Chains.{IsAllowedBy}
+use Rattle.live_words.specs.live_rule.Rights.{AreAsKnown, own_in, object_in, cell_in, payload_in}
+use Rattle.live_words.specs.step_chains.Chains.{IsAllowedBy}
 
 -- the objects that a writer's chain links, the first one first
 abbrev pub list_in : View → List ObjectId

@@ -10,8 +10,8 @@ use Rattle.live_words.specs.live_rule.declared.view.View.{View}
 use Rattle.live_words.specs.live_rule.declared.rights.RecordRight.{RecordRight}
 use Rattle.live_words.specs.live_rule.declared.rights.RecordRight.TheVariants.{Fresh}
 use Rattle.live_words.specs.live_rule.Places.{cell_at, last_at}
-use Rattle.live_words.specs.live_table.Rights.{cell_in, link_in, object_in, payload_in}
-use Rattle.live_words.specs.live_table.Steps.{FoundIn, Went, stores_in}
+use Rattle.live_words.specs.live_rule.Rights.{cell_in, link_in, object_in, payload_in}
+use Rattle.live_words.specs.live_rule.Steps.{FoundIn, Went, stores_in}
 use Rattle.live_read.specs.declared.caller.Caller.{Ghosts}
 
 -- the record was found in use

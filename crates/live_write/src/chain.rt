@@ -9,7 +9,7 @@ ghost use Rattle.live_log.specs.Log.{Begins, IsLiveRun, chain_note, payload_of};
 ghost use Rattle.live_words.specs.live_rule.declared.view.Look.TheVariants.{Stored};
 ghost use Rattle.live_words.specs.live_rule.Places.{hold_at};
 ghost use Rattle.live_words.specs.live_rule.Seats.{lent_chains};
-ghost use Rattle.live_words.specs.live_table.Rights.{AreAsKnown, IsListed, IsWriter, object_in, own_in};
+ghost use Rattle.live_words.specs.live_rule.Rights.{AreAsKnown, IsListed, IsWriter, object_in, own_in};
 ghost use Rattle.live_read.specs.Hearing.{IsAfter, OnlyHears, OnlyMakesLast, Stays};
 ghost use Rattle.live_write.specs.Calls.{GetsNote, GetsObject, HasList, HearsAll, IsCutFrom, IsHad, IsNotHad, LosesObject, MayCut, MayPush, MayReplace, MayReserveFor, OnlyLearns, OnlyLooksIn, PublishesCut, PublishesPush, PublishesReplace, PublishesReservation, TakesIn, reservation};
 ghost use Rattle.live_write.specs.Chains.{IsFirstWith, MayPublish, Publishes, first_word, list_in};

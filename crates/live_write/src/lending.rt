@@ -4,8 +4,8 @@
 ghost use Rattle.std.specs.Prelude.{◌≡◌, ◌<◌, ◌∷◌, ◌++◌, [], length};
 ghost use Rattle.live_log.specs.Log.{Begins, IsLiveRun};
 ghost use Rattle.live_words.specs.live_rule.Seats.{lent_chains};
-ghost use Rattle.live_words.specs.live_table.Rights.{AreAsKnown, IsListed, IsWriter, own_in};
-ghost use Rattle.live_words.specs.live_table.Steps.{Keeps};
+ghost use Rattle.live_words.specs.live_rule.Rights.{AreAsKnown, IsListed, IsWriter, own_in};
+ghost use Rattle.live_words.specs.live_rule.Steps.{Keeps};
 ghost use Rattle.live_write.specs.Calls.{GivesOut};
 ghost use Rattle.live_write.specs.Chains.{list_in};
 

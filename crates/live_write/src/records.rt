@@ -1,7 +1,7 @@
 //! Records that no chain links.
 
 ghost use Rattle.std.specs.Prelude.{◌≡◌, ◌<◌, ◌≤◌, ◌^◌, []};
-ghost use Rattle.live_words.specs.live_table.Rights.{IsFresh, IsUnlinked, cell_in, object_in};
+ghost use Rattle.live_words.specs.live_rule.Rights.{IsFresh, IsUnlinked, cell_in, object_in};
 
 use gp_memb::GracePlan;
 use live_read::Site;
@@ -46,7 +46,7 @@ pub struct Unlinked<B: Site> {
 }
 
 impl<B: Site> Unlinked<B> {
-    ghost use Rattle.live_words.specs.live_table.Steps.{Keeps};
+    ghost use Rattle.live_words.specs.live_rule.Steps.{Keeps};
     ghost use Rattle.live_write.specs.Calls.{LoadsHeader};
 
     /// Of a seat with the right to it.

@@ -3,8 +3,8 @@
 ghost use Rattle.std.specs.Prelude.{◌≡◌, ℕ, ◌<◌, ◌≤◌, ◌^◌, List, IfNone, IfSome, MatchBool};
 ghost use Rattle.live_words.specs.live_rule.declared.view.Look.{Look};
 ghost use Rattle.live_words.specs.live_rule.declared.rights.RecordRight.TheVariants.{Drawn};
-ghost use Rattle.live_words.specs.live_table.Rights.{IsDrawn, object_in};
-ghost use Rattle.live_words.specs.live_table.Steps.{IsLater, Keeps};
+ghost use Rattle.live_words.specs.live_rule.Rights.{IsDrawn, object_in};
+ghost use Rattle.live_words.specs.live_rule.Steps.{IsLater, Keeps};
 ghost use Rattle.live_write.specs.Searching.{AreTaken, DrawsNumber, IsTaken, IsUsedUp, Searched, StoresNothing, Takes};
 
 use gp_memb::GracePlan;

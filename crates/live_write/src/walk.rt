@@ -5,9 +5,9 @@ ghost use Rattle.std.specs.Prelude.{◌≡◌, ◌≢◌, ℕ, ◌<◌, ◌≤�
 ghost use Rattle.rcu_model.specs.Sets.{In};
 ghost use Rattle.rcu_model.specs.declared.event.ObjectId.{ObjectId};
 ghost use Rattle.live_log.specs.Log.{record_of, payload_of};
-ghost use Rattle.live_words.specs.live_table.Rights.{IsListed, IsWriter, own_in};
-ghost use Rattle.live_words.specs.live_table.Steps.{Keeps, Went};
-ghost use Rattle.live_words.specs.live_chains.Chains.{IsBefore, IsThere};
+ghost use Rattle.live_words.specs.live_rule.Rights.{IsListed, IsWriter, own_in};
+ghost use Rattle.live_words.specs.live_rule.Steps.{Keeps, Went};
+ghost use Rattle.live_words.specs.step_chains.Chains.{IsBefore, IsThere};
 ghost use Rattle.live_write.specs.Chains.{IsFirstWith, first_word};
 
 use gp_memb::GracePlan;

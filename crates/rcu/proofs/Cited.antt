@@ -17,18 +17,18 @@ pub use Rattle.rcu_hash.specs.Refusing.{During, RefusesInsertionThrough, Refuses
 pub use Rattle.rcu_hash.specs.Tidying.{EndsTidying, FindsEnd, Follow, IsQueueAmong, IsRefused, LinksStill, StopsTidying, callbacks_in, changes_in, numbers_of}
 pub use Rattle.rcu_hash.specs.Writers.{Each}
 pub use Rattle.rcu_hash.specs.declared.tidying.TidyEnd.{TidyEnd}
-pub use Rattle.rcu_hash.specs.live_items.Retiring.{Queues}
+pub use Rattle.rcu_hash.specs.live_callbacks.Refusing.{RefusesRetirement}
+pub use Rattle.rcu_hash.specs.live_callbacks.Retiring.{Queues}
 pub use Rattle.rcu_hash.specs.live_read.Hearing.{IsAfter, MakesLast, MakesMany, Stays}
 pub use Rattle.rcu_hash.specs.live_read.declared.caller.Caller.{Ghosts}
-pub use Rattle.rcu_hash.specs.live_reclaim.Refusing.{RefusesRetirement}
+pub use Rattle.rcu_hash.specs.live_rule.Claims.{ClaimsSlot, KnowsSlot, slot}
 pub use Rattle.rcu_hash.specs.live_rule.Readers.{Fits, IsClosed}
-pub use Rattle.rcu_hash.specs.live_rule.Rights.{ClaimsSlot, KnowsSlot, slot}
+pub use Rattle.rcu_hash.specs.live_rule.Rights.{AreAsKnown, IsOwner, IsWriter, cell_in, count_in, object_in, own_in, payload_in, word_in}
 pub use Rattle.rcu_hash.specs.live_rule.Rule.{KeepsRule}
 pub use Rattle.rcu_hash.specs.live_rule.declared.rights.SlotRight.{SlotRight}
 pub use Rattle.rcu_hash.specs.live_rule.declared.view.Look.{Look}
 pub use Rattle.rcu_hash.specs.live_rule.declared.view.Sizes.{Sizes}
 pub use Rattle.rcu_hash.specs.live_rule.declared.view.View.{View}
-pub use Rattle.rcu_hash.specs.live_table.Rights.{AreAsKnown, IsOwner, IsWriter, cell_in, count_in, object_in, own_in, payload_in, word_in}
 pub use Rattle.rcu_hash.specs.live_write.Chains.{Publishes, list_in, push_by, replace_by}
 pub use Rattle.rcu_hash.specs.live_write.Searching.{GetsNoRecord}
 pub use Rattle.rcu_hash.specs.rcu_list.Calls.{HandsOver}

@@ -11,7 +11,7 @@ use Rattle.rcu_hash.specs.live_rule.Readers.{IsClosed}
 use Rattle.rcu_hash.specs.live_rule.Rule.{WordsAgree}
 use Rattle.rcu_hash.specs.live_rule.declared.view.Sizes.{Sizes}
 use Rattle.rcu_hash.specs.live_rule.declared.view.View.{View}
-use Rattle.rcu_hash.specs.live_table.Rights.{IsOwner, count_in, word_in}
+use Rattle.rcu_hash.specs.live_rule.Rights.{IsOwner, count_in, word_in}
 
 -- At this moment of a table there is one log. It keeps the promises of the abstract machine, the table's words are what
 -- it says, and it begins with all that each seat has seen and heard of. Where a seat owns a reader's slot, whose word is

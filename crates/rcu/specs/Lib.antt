@@ -18,7 +18,7 @@ pub use Rattle.rcu_hash.specs.domain.Naming
 pub use Rattle.rcu_hash.specs.domain.Retiring
 pub use Rattle.rcu_hash.specs.domain.Waiting
 pub use Rattle.rcu_hash.specs.domain.Working
-pub use Rattle.rcu_hash.specs.live_reclaim as live_reclaim
+pub use Rattle.rcu_hash.specs.live_callbacks as live_callbacks
 pub use Rattle.rcu_hash.specs.live_write.Calls
 pub use Rattle.rcu_hash.specs.rcu_list.Maps
 pub use Rattle.rcu_hash.specs.Directories

@@ -4,7 +4,7 @@ use Rattle.rcu_model.specs.declared.refusal.Refusal.{Refusal}
 use Rattle.rcu_model.specs.declared.refusal.Refusal.TheVariants.{Exhausted}
 use Rattle.rcu_hash.specs.domain.Working.{FoundUsedUp}
 use Rattle.rcu_hash.specs.live_read.declared.caller.Caller.{Ghosts}
-use Rattle.rcu_hash.specs.live_reclaim.Working.{RefusesWork}
+use Rattle.rcu_hash.specs.live_callbacks.Working.{RefusesWork}
 use Rattle.rcu_hash.specs.live_rule.declared.view.Sizes.{Sizes}
 use Rattle.rcu.specs.Trying.{StaysOn}
 

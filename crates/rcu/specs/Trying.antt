@@ -6,7 +6,7 @@ use Rattle.rcu_hash.specs.live_read.declared.caller.Caller.{Ghosts}
 use Rattle.rcu_hash.specs.live_rule.declared.rights.RecordRight.{RecordRight}
 use Rattle.rcu_hash.specs.live_rule.declared.view.Look.{Look}
 use Rattle.rcu_hash.specs.live_rule.declared.view.Sizes.{Sizes}
-use Rattle.rcu_hash.specs.live_table.Rights.{cell_in, object_in}
+use Rattle.rcu_hash.specs.live_rule.Rights.{cell_in, object_in}
 use Rattle.rcu_hash.specs.live_write.Searching.{GetsNoRecord, TakesRecord}
 use Rattle.rcu_hash.specs.Writers.{Each}
 

@@ -2,7 +2,7 @@
 
 ghost use Rattle.std.specs.Prelude.{◌≡◌, IfOk};
 ghost use Rattle.rcu_hash.specs.live_read.Hearing.{IsAfter, Stays};
-ghost use Rattle.rcu_hash.specs.live_table.Rights.{payload_in};
+ghost use Rattle.rcu_hash.specs.live_rule.Rights.{payload_in};
 ghost use Rattle.rcu.specs.Trying.{TakesAtLast};
 
 use crossbeam_utils::Backoff;

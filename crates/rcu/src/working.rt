@@ -3,7 +3,7 @@
 ghost use Rattle.std.specs.Prelude.{◌≡◌, ℕ, IfErr, IfOk};
 ghost use Rattle.live_log.specs.Log.{HaveRun};
 ghost use Rattle.rcu_hash.specs.live_read.Hearing.{Stays};
-ghost use Rattle.rcu_hash.specs.live_reclaim.Working.{IsEmptied};
+ghost use Rattle.rcu_hash.specs.live_callbacks.Working.{IsEmptied};
 ghost use Rattle.rcu.specs.Serving.{IsNotServed};
 
 use gp_memb::GracePlan;

@@ -5,7 +5,7 @@ use Rattle.live_log.specs.Log.{record_of, state_of}
 use Rattle.live_log.specs.Tables.{reserved}
 use Rattle.rcu_list.specs.live_rule.Seats.{lent_chains}
 use Rattle.rcu_list.specs.live_rule.declared.view.View.{View}
-use Rattle.rcu_list.specs.live_table.Rights.{own_in}
+use Rattle.rcu_list.specs.live_rule.Rights.{own_in}
 use Rattle.rcu_hash.specs.Naming.{Directs, words_by}
 use Rattle.rcu_hash.specs.Tables.{IsAmong}
 use Rattle.rcu_hash.specs.Writers.{HasKeysIn, HasNote, IsAlone}

@@ -6,7 +6,7 @@ use Rattle.rcu_model.specs.declared.refusal.Refusal.TheVariants.{PoolFull}
 use Rattle.rcu_list.specs.live_rule.Places.{cell_at}
 use Rattle.rcu_list.specs.live_rule.declared.view.Look.{Look}
 use Rattle.rcu_list.specs.live_rule.declared.view.Sizes.{Sizes}
-use Rattle.rcu_list.specs.live_table.Steps.{stores_in}
+use Rattle.rcu_list.specs.live_rule.Steps.{stores_in}
 use Rattle.rcu_list.specs.live_read.declared.caller.Caller.{Ghosts}
 use Rattle.rcu_list.specs.live_write.Searching.{NoRecordIsFree}
 

@@ -12,10 +12,8 @@ pub mod Tables
 pub mod Tidying
 pub mod Writers
 pub use Rattle.rcu_list.specs.domain as domain
-pub use Rattle.rcu_list.specs.live_items as live_items
+pub use Rattle.rcu_list.specs.live_callbacks as live_callbacks
 pub use Rattle.rcu_list.specs.live_read as live_read
-pub use Rattle.rcu_list.specs.live_reclaim as live_reclaim
 pub use Rattle.rcu_list.specs.live_rule as live_rule
-pub use Rattle.rcu_list.specs.live_table as live_table
 pub use Rattle.rcu_list.specs.live_write as live_write
 pub use Rattle.rcu_list.specs as rcu_list

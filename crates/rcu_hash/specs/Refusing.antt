@@ -11,7 +11,7 @@ use Rattle.rcu_list.specs.live_rule.declared.view.Look.TheVariants.{Loaded}
 use Rattle.rcu_list.specs.live_rule.declared.view.Sizes.{Sizes}
 use Rattle.rcu_list.specs.live_read.Hearing.{IsAfter, OnlyHears}
 use Rattle.rcu_list.specs.live_read.declared.caller.Caller.{Ghosts}
-use Rattle.rcu_list.specs.live_reclaim.Refusing.{RefusesRetirement}
+use Rattle.rcu_list.specs.live_callbacks.Refusing.{RefusesRetirement}
 use Rattle.rcu_list.specs.Maps.{HasLastRank}
 use Rattle.rcu_list.specs.Refusing.{FindsNoRecord, GivesBack}
 use Rattle.rcu_hash.specs.Directories.{LeadsTo, directed_map}

@@ -16,8 +16,8 @@ use Rattle.rcu_list.specs.live_rule.declared.view.Look.{Look}
 use Rattle.rcu_list.specs.live_rule.declared.view.Look.TheVariants.{Stored}
 use Rattle.rcu_list.specs.live_rule.declared.view.Sizes.{Sizes}
 use Rattle.rcu_list.specs.live_rule.declared.view.View.{View}
-use Rattle.rcu_list.specs.live_items.Retiring.{Queues}
-use Rattle.rcu_list.specs.live_table.Rights.{object_in, own_in}
+use Rattle.rcu_list.specs.live_callbacks.Retiring.{Queues}
+use Rattle.rcu_list.specs.live_rule.Rights.{object_in, own_in}
 use Rattle.rcu_list.specs.live_read.Hearing.{FindsNothing, MakesMany}
 use Rattle.rcu_list.specs.live_read.declared.caller.Caller.{Ghosts}
 use Rattle.rcu_list.specs.live_write.Chains.{list_in}

@@ -4,8 +4,8 @@ ghost use Rattle.std.specs.Prelude.{◌≡◌, ◌⊎◌, ◌%◌, ◌==◌, ◌
 ghost use Rattle.live_log.specs.Log.{Begins, Log};
 ghost use Rattle.live_log.specs.Tables.{tabled};
 ghost use Rattle.rcu_list.specs.live_rule.declared.view.Look.{Look};
-ghost use Rattle.rcu_list.specs.live_table.Rights.{cell_in, payload_in};
-ghost use Rattle.rcu_list.specs.live_table.Steps.{Keeps, Went};
+ghost use Rattle.rcu_list.specs.live_rule.Rights.{cell_in, payload_in};
+ghost use Rattle.rcu_list.specs.live_rule.Steps.{Keeps, Went};
 ghost use Rattle.rcu_list.specs.live_read.Hearing.{OnlyMakesMany, Stays};
 ghost use Rattle.rcu_list.specs.live_write.Searching.{NoRecordIsFree};
 ghost use Rattle.rcu_list.specs.Maps.{words_of};

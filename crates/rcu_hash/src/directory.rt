@@ -4,7 +4,7 @@ ghost use Rattle.std.specs.Prelude.{ℕ, ◌≡◌, ◌≢◌, ◌+◌, ◌^◌,
 ghost use Rattle.live_log.specs.Log.{Begins, IsLiveRun, chain_note, record_of};
 ghost use Rattle.live_log.specs.Tables.{tabled};
 ghost use Rattle.rcu_list.specs.live_rule.Seats.{lent_chains};
-ghost use Rattle.rcu_list.specs.live_table.Rights.{own_in};
+ghost use Rattle.rcu_list.specs.live_rule.Rights.{own_in};
 ghost use Rattle.rcu_list.specs.live_read.Hearing.{IsAfter, OnlyHears};
 ghost use Rattle.rcu_list.specs.live_write.Chains.{list_in};
 ghost use Rattle.rcu_hash.specs.Buckets.{HasRight};

@@ -5,7 +5,7 @@ ghost use Rattle.live_log.specs.declared.event.LiveEvent.TheVariants.{Object};
 ghost use Rattle.live_log.specs.declared.event.ObjectEvent.TheVariants.{Replace};
 ghost use Rattle.live_log.specs.Log.{record_of, state_of};
 ghost use Rattle.live_log.specs.Tables.{reserved, tabled};
-ghost use Rattle.rcu_list.specs.live_table.Rights.{object_in, payload_in};
+ghost use Rattle.rcu_list.specs.live_rule.Rights.{object_in, payload_in};
 ghost use Rattle.rcu_list.specs.live_read.Hearing.{OnlyMakesLast};
 ghost use Rattle.rcu_hash.specs.Copies.{AreApart, value_among, value_in_bucket};
 ghost use Rattle.rcu_hash.specs.Growing.{Exchanges};

@@ -4,7 +4,7 @@ ghost use Rattle.std.specs.Prelude.{◌≡◌, ◌⊎◌, ◌+◌, ◌<◌, ◌�
 ghost use Rattle.std.specs.Sync.RwLock.{write_guard_value};
 ghost use Rattle.live_log.specs.Log.{Begins, Log, record_of};
 ghost use Rattle.live_log.specs.Tables.{tabled};
-ghost use Rattle.rcu_list.specs.live_table.Rights.{payload_in};
+ghost use Rattle.rcu_list.specs.live_rule.Rights.{payload_in};
 ghost use Rattle.rcu_list.specs.live_read.Hearing.{OnlyMakesMany, Stays};
 ghost use Rattle.rcu_hash.specs.Copies.{AreApart, AreRanked, value_among, value_in_bucket};
 ghost use Rattle.rcu_hash.specs.Directories.{buckets_in};

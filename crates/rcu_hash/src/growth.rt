@@ -5,7 +5,7 @@ ghost use Rattle.rcu_model.specs.declared.refusal.Refusal.TheVariants.{BadConfig
 ghost use Rattle.live_log.specs.Log.{Begins, Log};
 ghost use Rattle.live_log.specs.Tables.{tabled};
 ghost use Rattle.rcu_list.specs.live_rule.declared.view.Look.{Look};
-ghost use Rattle.rcu_list.specs.live_table.Rights.{cell_in, payload_in};
+ghost use Rattle.rcu_list.specs.live_rule.Rights.{cell_in, payload_in};
 ghost use Rattle.rcu_list.specs.live_read.Hearing.{Stays};
 ghost use Rattle.rcu_list.specs.live_write.Searching.{NoRecordIsFree};
 ghost use Rattle.rcu_hash.specs.Copies.{AreApart, AreRanked, value_among, value_in_bucket};

@@ -9,7 +9,7 @@ ghost use Rattle.live_log.specs.Tables.{reserved, tabled};
 ghost use Rattle.rcu_list.specs.live_rule.declared.view.Look.{Look};
 ghost use Rattle.rcu_list.specs.live_rule.declared.view.Look.TheVariants.{Loaded, Stored};
 ghost use Rattle.rcu_list.specs.live_rule.Places.{hold_at};
-ghost use Rattle.rcu_list.specs.live_table.Rights.{object_in, payload_in};
+ghost use Rattle.rcu_list.specs.live_rule.Rights.{object_in, payload_in};
 ghost use Rattle.rcu_list.specs.live_read.Hearing.{IsAfter, OnlyMakesLast, OnlyMakesMany, Stays};
 ghost use Rattle.rcu_hash.specs.Directories.{LeadsTo, directed_map};
 ghost use Rattle.rcu_hash.specs.Freeing.{FreesAll};

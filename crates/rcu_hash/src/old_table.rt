@@ -4,7 +4,7 @@ ghost use Rattle.std.specs.Prelude.{◌≡◌, ◌+◌, ◌^◌, ◌-◌, ◌<�
 ghost use Rattle.live_log.specs.Log.{Begins};
 ghost use Rattle.live_log.specs.Tables.{tabled};
 ghost use Rattle.rcu_list.specs.live_read.Hearing.{IsAfter, OnlyHears};
-ghost use Rattle.rcu_list.specs.live_table.Rights.{object_in, own_in};
+ghost use Rattle.rcu_list.specs.live_rule.Rights.{object_in, own_in};
 ghost use Rattle.rcu_hash.specs.Growing.{HasLeft};
 ghost use Rattle.rcu_hash.specs.Refusing.{During};
 ghost use Rattle.rcu_hash.specs.Tidying.{CountsLeft, IsLeft, IsLinked, IsRecord, IsRest, LinksStill, left_prop, objects_in, one_if, record_prop};

@@ -4,7 +4,7 @@ ghost use Rattle.std.specs.Prelude.{◌≡◌, ◌≤◌, ◌∷◌, ◌++◌, [
 ghost use Rattle.live_log.specs.Log.{Begins, IsLiveRun};
 ghost use Rattle.live_log.specs.Tables.{tabled};
 ghost use Rattle.rcu_list.specs.live_rule.Seats.{lent_chains};
-ghost use Rattle.rcu_list.specs.live_table.Rights.{AreAsKnown, own_in};
+ghost use Rattle.rcu_list.specs.live_rule.Rights.{AreAsKnown, own_in};
 ghost use Rattle.rcu_hash.specs.Writers.{Each, HasSeen, IsAlone, IsRunIn, SawBefore, lengths_of, rights_of};
 
 use gp_memb::GracePlan;

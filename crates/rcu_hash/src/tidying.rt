@@ -10,7 +10,7 @@ ghost use Rattle.live_log.specs.Tables.{tabled};
 ghost use Rattle.rcu_list.specs.live_rule.Places.{hold_at};
 ghost use Rattle.rcu_list.specs.live_rule.declared.view.Look.{Look};
 ghost use Rattle.rcu_list.specs.live_rule.declared.view.Look.TheVariants.{Stored};
-ghost use Rattle.rcu_list.specs.live_table.Rights.{object_in};
+ghost use Rattle.rcu_list.specs.live_rule.Rights.{object_in};
 ghost use Rattle.rcu_list.specs.live_read.Hearing.{IsAfter, MakesMany, OnlyHears, Stays};
 ghost use Rattle.rcu_list.specs.live_write.Chains.{list_in};
 ghost use Rattle.rcu_list.specs.domain.Waiting.{FindsMore};

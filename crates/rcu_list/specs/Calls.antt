@@ -9,15 +9,15 @@ use Rattle.live_log.specs.declared.event.LiveEvent.TheVariants.{Object}
 use Rattle.live_log.specs.declared.event.ObjectEvent.TheVariants.{Push, Replace, Cut}
 use Rattle.live_log.specs.Log.{Log, Begins, IsLiveRun, record_of, state_of}
 use Rattle.domain.specs.callback_queue.declared.item.Ticket.{Ticket}
-use Rattle.domain.specs.live_items.Retiring.{Queues}
+use Rattle.domain.specs.live_callbacks.Retiring.{Queues}
 use Rattle.domain.specs.live_read.Hearing.{IsAfter, MakesLast}
 use Rattle.domain.specs.live_read.declared.caller.Caller.{Ghosts}
 use Rattle.domain.specs.live_read.declared.site.Site as site
 use Rattle.domain.specs.live_rule.declared.rights.RecordRight.{RecordRight}
 use Rattle.domain.specs.live_rule.declared.view.Sizes.{Sizes}
 use Rattle.domain.specs.live_rule.declared.view.View.{View}
-use Rattle.domain.specs.live_table.Rights.{own_in}
-use Rattle.domain.specs.live_table.Steps.{Keeps, Went}
+use Rattle.domain.specs.live_rule.Rights.{own_in}
+use Rattle.domain.specs.live_rule.Steps.{Keeps, Went}
 use Rattle.domain.specs.live_write.declared.chain.Chain.{Chain}
 use Rattle.domain.specs.live_write.Chains.{list_in}
 use Rattle.domain.specs.live_write.Searching.{TakesFor}

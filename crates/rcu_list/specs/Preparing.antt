@@ -5,7 +5,7 @@ use Rattle.rcu_model.specs.Sets.{In}
 use Rattle.live_log.specs.Keys.{key_of, rank_of}
 use Rattle.live_log.specs.Log.{Log, record_of}
 use Rattle.domain.specs.live_rule.declared.view.View.{View}
-use Rattle.domain.specs.live_table.Rights.{payload_in}
+use Rattle.domain.specs.live_rule.Rights.{payload_in}
 use Rattle.domain.specs.live_write.Chains.{IsFirstWith, list_in}
 use Rattle.rcu_list.specs.Maps.{map_of, next_rank, words_of}
 

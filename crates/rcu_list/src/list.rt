@@ -6,7 +6,7 @@ ghost use Rattle.rcu_model.specs.declared.event.ObjectId.{ObjectId};
 ghost use Rattle.rcu_model.specs.declared.refusal.Refusal.TheVariants.{BadConfig};
 ghost use Rattle.live_log.specs.Log.{record_of};
 ghost use Rattle.live_log.specs.Tables.{HasKey};
-ghost use Rattle.domain.specs.live_table.Rights.{own_in};
+ghost use Rattle.domain.specs.live_rule.Rights.{own_in};
 ghost use Rattle.domain.specs.live_read.Hearing.{OnlyHears, OnlyMakesLast};
 ghost use Rattle.domain.specs.live_write.Calls.{OnlyLearns, OnlyLooks};
 ghost use Rattle.domain.specs.live_write.Chains.{list_in};

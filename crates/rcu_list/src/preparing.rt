@@ -5,7 +5,7 @@ ghost use Rattle.rcu_model.specs.Sets.{In};
 ghost use Rattle.rcu_model.specs.declared.event.ObjectId.{ObjectId};
 ghost use Rattle.live_log.specs.Keys.{rank_of};
 ghost use Rattle.live_log.specs.Log.{record_of};
-ghost use Rattle.domain.specs.live_table.Steps.{IsLater, Keeps, Went};
+ghost use Rattle.domain.specs.live_rule.Steps.{IsLater, Keeps, Went};
 ghost use Rattle.domain.specs.live_read.Hearing.{IsAfter, Stays};
 ghost use Rattle.domain.specs.live_write.Chains.{list_in};
 ghost use Rattle.rcu_list.specs.Maps.{HasLastRank, map_of, next_rank};

@@ -8,13 +8,13 @@ use Rattle.live_log.specs.contracts.chain_rule.AnyChainChainRule.TheImpl.{ghosts
 use Rattle.live_log.specs.Log.{IsLiveRun, seq_of}
 use Rattle.live_log.specs.declared.callback_id.CallbackId.{CallbackId}
 use Rattle.live_words.specs.live_rule.declared.view.View.{View}
-use Rattle.live_words.specs.live_rule.Steps.{Precedes}
-use Rattle.live_words.specs.live_groups.Groups.{IsClaimed}
+use Rattle.live_words.specs.live_rule.Seen.{Precedes}
+use Rattle.live_words.specs.step_readers.Groups.{IsClaimed}
 use Rattle.live_read.specs.Registering.{FindsAllClaimed, IsGivenBack, TakesOne}
 use Rattle.live_read.specs.Sections as sections
-use Rattle.live_grace.specs.Answers.{IsCookieOf}
-use Rattle.live_words.specs.live_table.Rights.{looks_in}
-use Rattle.live_grace.specs.Steps.{IsAnswered, Stands}
+use Rattle.live_waits.specs.Answers.{IsCookieOf}
+use Rattle.live_words.specs.live_rule.Rights.{looks_in}
+use Rattle.live_waits.specs.Steps.{IsAnswered, Stands}
 use Rattle.held_values.specs.declared.MembDomain.{MembDomain}
 use Rattle.held_values.specs.declared.QsbrDomain.{QsbrDomain}
 use Rattle.held_values.specs.declared.MembGrace.{MembGrace}

@@ -28,23 +28,23 @@ pub use Rattle.rcu_list.specs.Maps.{map_of, value_in, words_of, value_of, Answer
 pub use Rattle.rcu_list.specs.Refusing.{FindsNoRecord, GivesBack, RefusesSuccessor}
 pub use Rattle.rcu_list.specs.Walks.{times}
 pub use Rattle.rcu_list.specs.domain.Waiting.{FindsMore, LoadedOnce, Synchronized}
-pub use Rattle.rcu_list.specs.live_items.Retiring.{Queues, IsAfterAll}
+pub use Rattle.rcu_list.specs.live_callbacks.Refusing.{RefusesRetirement}
+pub use Rattle.rcu_list.specs.live_callbacks.Retiring.{Queues, IsAfterAll}
 pub use Rattle.rcu_list.specs.live_read.Hearing.{OnlyHears, MakesMany, OnlyMakesLast, Stays, IsAfter, MakesLast, OnlyMakesMany, FindsNothing}
 pub use Rattle.rcu_list.specs.live_read.Holding.{log_of, ordinal}
 pub use Rattle.rcu_list.specs.live_read.Reads.{FindsFirst, Looks}
 pub use Rattle.rcu_list.specs.live_read.Sections.{IsIn}
 pub use Rattle.rcu_list.specs.live_read.declared.caller.Caller.{Ghosts}
 pub use Rattle.rcu_list.specs.live_read.declared.reader_core.ReaderCore.{ReaderCore}
-pub use Rattle.rcu_list.specs.live_reclaim.Refusing.{RefusesRetirement}
 pub use Rattle.rcu_list.specs.live_rule.Places.{hold_at, cell_at, last_at, closed_at}
+pub use Rattle.rcu_list.specs.live_rule.Rights.{IsListed, own_in, IsWriter, cell_in, object_in, payload_in, AreAsKnown}
 pub use Rattle.rcu_list.specs.live_rule.Seats.{lent_chains}
+pub use Rattle.rcu_list.specs.live_rule.Steps.{Went, stores_in, Keeps}
 pub use Rattle.rcu_list.specs.live_rule.declared.rights.ChainRight.{ChainRight}
 pub use Rattle.rcu_list.specs.live_rule.declared.view.Look.{Look}
 pub use Rattle.rcu_list.specs.live_rule.declared.view.Look.TheVariants.{Stored, Loaded}
 pub use Rattle.rcu_list.specs.live_rule.declared.view.Sizes.{Sizes}
 pub use Rattle.rcu_list.specs.live_rule.declared.view.View.{View}
-pub use Rattle.rcu_list.specs.live_table.Rights.{IsListed, own_in, IsWriter, cell_in, object_in, payload_in, AreAsKnown}
-pub use Rattle.rcu_list.specs.live_table.Steps.{Went, stores_in, Keeps}
 pub use Rattle.rcu_list.specs.live_write.Chains.{MayPublish, Publishes, list_in, push_by, replace_by}
 pub use Rattle.rcu_list.specs.live_write.Searching.{AreTaken, GetsNoRecord, IsUsedUp, TakesRecord}
 pub use Rattle.rcu_list.specs.live_write.declared.records.Unlinked.{Unlinked}

@@ -1,4 +1,4 @@
-use Rattle.live_words.specs.live_table.Steps.{Keeps}
+use Rattle.live_words.specs.live_rule.Steps.{Keeps}
 use Rattle.live_write.proofs.Walking.{Stands}
 use Rattle.live_write.proofs.walk.find.Given as goal
 

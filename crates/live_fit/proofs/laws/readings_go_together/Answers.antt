@@ -1,6 +1,0 @@
-use Rattle.live_fit.specs.Fit.{read_by}
-use Rattle.live_fit.proofs.Steps.{fitted, runs, together}
-use Rattle.live_fit.proofs.laws.readings_go_together.Goals as goal
-
-pub returns : goal.returns
-returns g m each = fitted m (together m (λ s. runs (read_by s m) (each s)))

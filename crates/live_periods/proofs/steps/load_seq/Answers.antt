@@ -1,8 +1,0 @@
-use Rattle.live_periods.proofs.Periods.{looks_seq}
-use Rattle.live_periods.proofs.steps.load_seq.Goals as goal
-
-pub load-requires : goal.load-requires
-load-requires g c = (c.requires, c.seq_place-place.ensures.1, rw (c.seq_place-place.ensures.0) (looks_seq g.P.GracePlan.QSBR g.K.ChainRule.allows _ _ _ _))
-
-pub returns-clause-known : goal.returns-clause-known
-returns-clause-known g c = c.load.ensures.2.2

@@ -1,2 +1,0 @@
--- The lemmas of this crate that crates above it cite.
-pub use Rattle.live_readers.proofs.Words.{opened_after, copied_before, phase_copied}

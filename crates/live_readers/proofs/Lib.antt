@@ -1,6 +1,0 @@
-mod Cited
-pub mod Stores
-pub mod Sections
-pub mod Words
-mod Slots
-pub mod Lemmas

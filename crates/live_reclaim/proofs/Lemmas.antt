@@ -1,2 +1,0 @@
--- The lemmas of this crate that crates above it cite.
-pub use Rattle.live_reclaim.proofs.Running.{all_and, all_later, due_later}

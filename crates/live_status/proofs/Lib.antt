@@ -1,3 +1,0 @@
-mod Cited
-pub mod Loads
-pub mod Scans

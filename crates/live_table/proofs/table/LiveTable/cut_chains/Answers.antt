@@ -1,5 +1,0 @@
-use Rattle.live_table.proofs.Cited.{arith, cuts_chains}
-use Rattle.live_table.proofs.table.LiveTable.cut_chains.Goals as goal
-
-pub split_seat-requires : goal.split_seat-requires
-split_seat-requires g c = let laid = c.args.self.now.laid in (c.requires, omega arith, cuts_chains g.P.GracePlan.QSBR g.K.ChainRule.allows _ c.args.seat.now.id c.args.seat.now.me.0)

@@ -1,0 +1,6 @@
+pub mod Answers
+pub mod Asks
+pub mod Going
+pub mod Steps
+pub mod Barrier
+pub mod Status
