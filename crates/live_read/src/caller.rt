@@ -16,7 +16,7 @@ pub trait Caller<B: Site> {
     ghost use Rattle.live_words.specs.live_rule.Views.{bare};
     ghost use Rattle.live_words.specs.live_rule.declared.view.Look.{Look};
     ghost use Rattle.live_words.specs.live_rule.declared.view.Sizes.{Sizes};
-    ghost use Rattle.live_read.specs.Standings.{Standing};
+    ghost use Rattle.live_read.specs.Standings.{KeepsAll, Standing, TakesIn};
 
     /// The log that it has seen.
     ghost seen: { Self → Log };
@@ -44,7 +44,7 @@ pub trait Caller<B: Site> {
     fn tell<P: GracePlan, K: ChainRule>(&mut self, table: &LiveTable<P, K>) -> LiveSeat
         requires { table.now.words.shared.table_id ≡ B.table }
         ensures seat { (result.table_id ≡ B.table) × (result.me ≡ (bare B.sizes (seen self.old) (heard self.old), [])) }
-        ensures same { (seen self.new ≡ seen self.old) × (heard self.new ≡ heard self.old) × (loads self.new ≡ loads self.old) × (looks self.new ≡ looks self.old) × (standing self.new ≡ standing self.old) × (changes self.new ≡ changes self.old) }
+        ensures same { KeepsAll seen heard loads looks standing changes self.old self.new }
         ensures inside { is_in self.old → is_in self.new };
 
     /// It hears what the seat has seen, in the place of what it had heard of, and takes in the seat's loads and looks.
@@ -64,7 +64,7 @@ pub trait Caller<B: Site> {
     )
         requires table { (table.now.words.shared.table_id ≡ B.table) × (other.table_id ≡ B.table) × (other.me.1 ≡ []) }
         ensures heard { heard self.new ≡ other.me.0.seen }
-        ensures loads { (loads self.new ≡ other.me.0.loads ++ loads self.old) × (looks self.new ≡ other.me.0.looks ++ looks self.old) × (changes self.new ≡ other.me.0.changes ++ changes self.old) }
+        ensures loads { TakesIn loads looks changes other.me.0 self.old self.new }
         ensures same { (seen self.new ≡ seen self.old) × (standing self.new ≡ standing self.old) }
         ensures inside { is_in self.old → is_in self.new };
 }

@@ -2,6 +2,7 @@
 use Rattle.std.specs.Prelude.{Bool, true, ◌≡◌, ℕ, ◌+◌, ◌%◌, ◌≤◌, List, [], ◌∷◌, ◌++◌}
 use Rattle.reader_word.specs.declared.layout.Layout.{Layout}
 use Rattle.reader_word.specs.declared.layout.Layout.TheVariants.{Wide}
+use Rattle.gp_memb.specs.declared.plan.GracePlan as plan
 use Rattle.gp_memb.specs.declared.plan.Action.{Action}
 use Rattle.gp_memb.specs.declared.plan.Action.TheVariants.{StorePhase, Finished}
 use Rattle.gp_memb.specs.Plan.{after_loads}
@@ -9,6 +10,7 @@ use Rattle.live_log.specs.declared.event.LiveEvent.{LiveEvent}
 use Rattle.live_log.specs.declared.event.LiveEvent.TheVariants.{Present, SeqEven, SeqOdd}
 use Rattle.live_log.specs.Log.{Log, Begins, HaveEnded, IsLiveRun, present_of, seq_of}
 use Rattle.live_words.specs.live_rule.declared.view.View.{View}
+use Rattle.live_words.specs.live_rule.Seats.{heard_view, told_view}
 use Rattle.live_words.specs.live_rule.Seen.{Precedes}
 
 -- an even number that the sequence number reaches no sooner than by a grace period that began after the log
@@ -36,6 +38,10 @@ pub record WholeGracePeriod (qsbr : Bool) (allows : Log → LiveEvent → Type 0
   pub ended : HaveEnded before log
   pub run : IsLiveRun qsbr allows log
 
+-- the same of a view that heard of what another one had seen and heard before
+abbrev pub WholePeriodAfter : Bool → (Log → LiveEvent → Type 0) → View → View → ℕ → ℕ → Log → Type 0
+WholePeriodAfter qsbr allows v other seq present log = WholeGracePeriod qsbr allows (heard_view v (told_view other)) seq present log
+
 -- the log begins with an earlier one, above which these events stand in this order, whatever others stand between them:
 -- the first of them is the last
 abbrev pub Gained : Log → Log → Log → Type 0
@@ -54,12 +60,12 @@ stored_by action taken plan (word ∷ words) = stored_by action taken (taken pla
 
 -- A plan that was made for this many slots at this sequence number and this phase or number has run to its end, and
 -- left the last phase or number. All that it stored stands in the log, above a log that had the first words.
-pub record RanPlan {P : Type 0} (is_begun : Layout → Bool → ℕ → ℕ → ℕ → P → Type 0) (action : P → Action) (taken : P → ℕ → P) (present : P → ℕ) (slots seq first last : ℕ) (log : Log) : Type 0 where
+pub record RanPlan {P : Type 0} (p : plan.Ghosts P) (slots seq first last : ℕ) (log : Log) : Type 0 where
   pub start : P
-  pub begun : is_begun Wide true slots seq first start
+  pub begun : p.is_begun Wide true slots seq first start
   pub loaded : List ℕ
-  pub finished : action (after_loads taken start loaded) ≡ Finished
-  pub left : present (after_loads taken start loaded) ≡ last
+  pub finished : p.action (after_loads p.taken start loaded) ≡ Finished
+  pub left : p.present (after_loads p.taken start loaded) ≡ last
   pub before : Log
   pub words : HasWords seq first before
-  pub stores : Gained (SeqEven ∷ stored_by action taken start loaded ++ SeqOdd ∷ []) before log
+  pub stores : Gained (SeqEven ∷ stored_by p.action p.taken start loaded ++ SeqOdd ∷ []) before log

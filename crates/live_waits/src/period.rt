@@ -80,7 +80,7 @@ pub(crate) fn turn<P: GracePlan + Drop, K: ChainRule>(
     ensures goes { (result ≡ Done → ⊥) → WorksAt seq present.new seat.new.me.0 × (present.new ≡ P.present plan.new) × (before_in seat.new.me.0.grace ≡ before_in seat.old.me.0.grace) }
     ensures going { (old : Me CallbackId View) → (result ≡ Done → ⊥) → InLoop (P.is_begun Wide true table.now.slots seq first) P.action P.taken P.present seq P.QSBR K.allows old first plan.old seat.old.me → InLoop (P.is_begun Wide true table.now.slots seq first) P.action P.taken P.present seq P.QSBR K.allows old first plan.new seat.new.me }
     ensures ended { result ≡ Done → (seat.new.me.0.grace ≡ Rests (seq + 2) present.new) × (present.new ≡ present.old) × HasWords (seq + 2) present.new seat.new.me.0.seen × HaveEnded (before_in seat.old.me.0.grace) seat.new.me.0.seen }
-    ensures whole { (old : Me CallbackId View) → result ≡ Done → InLoop (P.is_begun Wide true table.now.slots seq first) P.action P.taken P.present seq P.QSBR K.allows old first plan.old seat.old.me → (seat.new.me ≡ (record (at_log old.0 seat.new.me.0.seen) { grace = Rests (seq + 2) present.new }, old.1)) × IsBound P.QSBR (seq + 2) present.new × WholeGracePeriod P.QSBR K.allows old.0 seq first seat.new.me.0.seen × RanPlan P.is_begun P.action P.taken P.present table.now.slots seq first present.new seat.new.me.0.seen }
+    ensures whole { (old : Me CallbackId View) → result ≡ Done → InLoop (P.is_begun Wide true table.now.slots seq first) P.action P.taken P.present seq P.QSBR K.allows old first plan.old seat.old.me → (seat.new.me ≡ (record (at_log old.0 seat.new.me.0.seen) { grace = Rests (seq + 2) present.new }, old.1)) × IsBound P.QSBR (seq + 2) present.new × WholeGracePeriod P.QSBR K.allows old.0 seq first seat.new.me.0.seen × RanPlan P.GracePlan table.now.slots seq first present.new seat.new.me.0.seen }
 {
     match plan.next() {
         Action::Load(slot) => {
@@ -133,7 +133,7 @@ pub(crate) fn grace_period<P: GracePlan + Drop, K: ChainRule, R: Wait>(
     ensures right { (seat.new.me ≡ (record (at_log seat.old.me.0 seat.new.me.0.seen) { grace = Rests (seq + 2) result }, seat.old.me.1)) × IsBound P.QSBR (seq + 2) result }
     ensures words { HasWords (seq + 2) result seat.new.me.0.seen }
     ensures period { WholeGracePeriod P.QSBR K.allows seat.old.me.0 seq first seat.new.me.0.seen }
-    ensures plan { RanPlan P.is_begun P.action P.taken P.present table.now.slots seq first result seat.new.me.0.seen }
+    ensures plan { RanPlan P.GracePlan table.now.slots seq first result seat.new.me.0.seen }
 {
     let mut plan = begin(table, seat, seq, first);
     let mut present = first;

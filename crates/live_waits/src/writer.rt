@@ -5,7 +5,7 @@ ghost use Rattle.live_words.specs.live_rule.declared.rights.GraceRight.TheVarian
 ghost use Rattle.live_words.specs.live_rule.Seen.{Precedes};
 ghost use Rattle.live_words.specs.live_rule.Steps.{Keeps};
 ghost use Rattle.live_words.specs.step_grace.Periods.{at_load};
-ghost use Rattle.live_waits.specs.Answers.{HasWords, RanPlan, WholeGracePeriod};
+ghost use Rattle.live_waits.specs.Answers.{HasWords, RanPlan, WholeGracePeriod, WholePeriodAfter};
 ghost use Rattle.live_waits.specs.Asks.{cookie_in};
 
 use crate::asks::{LiveAsk, go_on};
@@ -42,7 +42,6 @@ pub enum Answer {
 }
 
 impl<P: GracePlan + Drop> GraceWriter<P> {
-    ghost use Rattle.live_words.specs.live_rule.Seats.{heard_view, told_view};
     ghost use Rattle.live_waits.specs.declared.writer.Answer.TheVariants.{Own, Shared};
 
     /// Of a seat with the right to the words of grace periods of a new table.
@@ -66,7 +65,7 @@ impl<P: GracePlan + Drop> GraceWriter<P> {
         ensures seq { self.new.seq ≡ self.old.seq + 2 }
         ensures words { HasWords self.new.seq self.new.present self.new.seat.me.0.seen }
         ensures period { WholeGracePeriod P.QSBR K.allows self.old.seat.me.0 self.old.seq self.old.present self.new.seat.me.0.seen }
-        ensures plan { RanPlan P.is_begun P.action P.taken P.present table.now.slots self.old.seq self.old.present self.new.present self.new.seat.me.0.seen }
+        ensures plan { RanPlan P.GracePlan table.now.slots self.old.seq self.old.present self.new.present self.new.seat.me.0.seen }
     {
         self.present = grace_period(rt, table, &mut self.seat, self.seq, self.present);
         self.seq += 2;
@@ -87,8 +86,9 @@ impl<P: GracePlan + Drop> GraceWriter<P> {
         ensures ended { HaveEnded ask.asked.value.me.0.seen self.new.seat.me.0.seen }
         ensures words { HasWords self.new.seq self.new.present self.new.seat.me.0.seen }
         ensures shared { cookie_in ask.core ≤ self.old.seq → (result ≡ Shared) × (self.new.seq ≡ self.old.seq) × (self.new.present ≡ self.old.present) }
-        ensures own { self.old.seq < cookie_in ask.core → (result ≡ Own) × (self.new.seq ≡ self.old.seq + 2) × WholeGracePeriod P.QSBR K.allows self.old.seat.me.0 self.old.seq self.old.present self.new.seat.me.0.seen }
-        ensures plan { self.old.seq < cookie_in ask.core → RanPlan P.is_begun P.action P.taken P.present table.now.slots self.old.seq self.old.present self.new.present self.new.seat.me.0.seen }
+        ensures own { self.old.seq < cookie_in ask.core → (result ≡ Own) × (self.new.seq ≡ self.old.seq + 2) }
+        ensures period { self.old.seq < cookie_in ask.core → WholeGracePeriod P.QSBR K.allows self.old.seat.me.0 self.old.seq self.old.present self.new.seat.me.0.seen }
+        ensures plan { self.old.seq < cookie_in ask.core → RanPlan P.GracePlan table.now.slots self.old.seq self.old.present self.new.present self.new.seat.me.0.seen }
     {
         let LiveAsk { mut core, asked: _ } = ask;
         go_on(&mut core, 0);
@@ -120,8 +120,9 @@ impl<P: GracePlan + Drop> GraceWriter<P> {
         ensures ended { HaveEnded ask.asked.value.me.0.seen seat.new.me.0.seen }
         ensures words { HasWords self.new.seq self.new.present self.new.seat.me.0.seen }
         ensures shared { cookie_in ask.core ≤ self.old.seq → (result ≡ Shared) × (self.new.seq ≡ self.old.seq) × (self.new.present ≡ self.old.present) }
-        ensures own { self.old.seq < cookie_in ask.core → (result ≡ Own) × (self.new.seq ≡ self.old.seq + 2) × WholeGracePeriod P.QSBR K.allows (heard_view self.old.seat.me.0 (told_view seat.old.me.0)) self.old.seq self.old.present self.new.seat.me.0.seen }
-        ensures plan { self.old.seq < cookie_in ask.core → RanPlan P.is_begun P.action P.taken P.present table.now.slots self.old.seq self.old.present self.new.present self.new.seat.me.0.seen }
+        ensures own { self.old.seq < cookie_in ask.core → (result ≡ Own) × (self.new.seq ≡ self.old.seq + 2) }
+        ensures period { self.old.seq < cookie_in ask.core → WholePeriodAfter P.QSBR K.allows self.old.seat.me.0 seat.old.me.0 self.old.seq self.old.present self.new.seat.me.0.seen }
+        ensures plan { self.old.seq < cookie_in ask.core → RanPlan P.GracePlan table.now.slots self.old.seq self.old.present self.new.present self.new.seat.me.0.seen }
     {
         let told = table.tell(seat);
         table.learn(&mut self.seat, told);

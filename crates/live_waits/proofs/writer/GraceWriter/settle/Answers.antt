@@ -30,5 +30,5 @@ returns-clause-later g c = whole_later g.P.GracePlan.QSBR g.K.ChainRule.allows c
 pub returns-clause-ended : goal.returns-clause-ended
 returns-clause-ended g c = whole_ended g.P.GracePlan.QSBR g.K.ChainRule.allows c.args.self.now.seat.me.0 c.args.ask.asked.value.me.0.seen c.run.new.self.seat.me.0.seen c.requires.heard (period g c)
 
-pub returns-clause-own : goal.returns-clause-own
-returns-clause-own g c low = (search rules, search rules, period g c)
+pub returns-clause-period : goal.returns-clause-period
+returns-clause-period g c low = period g c
