@@ -15,6 +15,7 @@ pub use Rattle.live_read.specs.Hearing.{IsAfter, OnlyHears, Stays}
 pub use Rattle.live_waits.specs.Barrier.{AreNoted}
 pub use Rattle.live_waits.specs.Status.{Looks, Stalls}
 pub use Rattle.live_words.specs.live_rule.Places.{closed_at, finished_at, queued_at, work_at}
+pub use Rattle.live_words.specs.live_rule.Rights.{finished_in}
 pub use Rattle.live_words.specs.live_rule.Seen.{Wrote}
 pub use Rattle.live_words.specs.live_rule.Steps.{IsKnown, Keeps, Went, looked_view}
 pub use Rattle.live_words.specs.live_rule.Views.{bare}
@@ -23,7 +24,7 @@ pub use Rattle.live_words.specs.live_rule.declared.view.Look.{Look}
 pub use Rattle.live_words.specs.live_rule.declared.view.Look.TheVariants.{Loaded, Stored}
 pub use Rattle.live_words.specs.live_rule.declared.view.Sizes.{Sizes}
 pub use Rattle.live_words.specs.live_rule.declared.view.View.{View}
-pub use Rattle.live_words.specs.step_queues.Queues.{IsAt}
+pub use Rattle.live_words.specs.step_queues.Queues.{IsAt, TookNoMore}
 pub use Rattle.rcu_model.specs.Sets.{In}
 pub use Rattle.rcu_model.specs.declared.event.ObjectId.{ObjectId}
 pub use Rattle.std.proofs.Common.{Bool, IfErr, List, [], ap, append-nil, append_assoc, arith, cond, eq-eqb, false, inl, inr, length, refl, reverse, rules, subst, suc, sym, true, vec_capacity, vec_len, zero, ℕ, ⊎_elim, ◌++◌, ◌+◌, ◌-◌, ◌<◌, ◌==◌, ◌∙◌, ◌∷◌, ◌≡◌, ◌≢◌, ◌≤◌, ◌⊎◌}

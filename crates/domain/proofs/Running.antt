@@ -1,11 +1,11 @@
 -- What a worker keeps, and what it has run.
-use Rattle.domain.proofs.Cited.{Gv, Bool, true, false, ◌≡◌, ◌≢◌, ℕ, zero, suc, ◌+◌, ◌<◌, ◌≤◌, List, [], ◌∷◌, ◌++◌, length, reverse, append_assoc, sym, refl, ap, ◌∙◌, subst, arith, inl, inr, ⊎_elim, ◌==◌, some, some-injective, eqb_tells, get_elem?, length-append, reverse-append, at_longer, Me, Seat, ObjectId, In, Item, Ripe, Finished, LiveEvent, Close, Log, Begins, HaveEnded, HaveRun, IsLiveRun, line_of, state_of, begins_trans, grows_log, has_since, line_grows, Look, Loaded, Stored, View, closed_at, finished_at, queued_at, work_at, Wrote, bare, Sizes, IsKnown, Keeps, Went, looked_view, IsAt, CountsQueued, InOrder, IsPlaced, JobValue, AreRunAs, IsRunAs, Lists}
+use Rattle.domain.proofs.Cited.{Gv, Bool, true, false, ◌≡◌, ◌≢◌, ℕ, zero, suc, ◌+◌, ◌<◌, ◌≤◌, List, [], ◌∷◌, ◌++◌, length, reverse, append_assoc, sym, refl, ap, ◌∙◌, subst, arith, inl, inr, ⊎_elim, ◌==◌, some, some-injective, eqb_tells, get_elem?, length-append, reverse-append, at_longer, Me, Seat, ObjectId, In, Item, Ripe, Finished, LiveEvent, Close, Log, Begins, HaveEnded, HaveRun, IsLiveRun, line_of, state_of, begins_trans, grows_log, has_since, line_grows, Look, Loaded, Stored, View, closed_at, finished_at, queued_at, work_at, Wrote, bare, Sizes, IsKnown, Keeps, Went, looked_view, IsAt, TookNoMore, CountsQueued, InOrder, IsPlaced, JobValue, AreRunAs, IsRunAs, Lists}
 pub use Rattle.live_callbacks.proofs.Lemmas.{all_and, all_later, due_later}
 use Rattle.domain.specs.declared.worker_end.Stop.{Stop}
 use Rattle.domain.specs.declared.working.Outcome.{Outcome}
 use Rattle.domain.specs.declared.working.Outcome.TheVariants.{Ran, Nothing}
 use Rattle.domain.specs.declared.working.Outcome.TheVariants as outcome
-use Rattle.domain.specs.Working.{FoundUsedUp, GoesOn, HasMore, HasWorked, IsRound, KeepsFinds, Looks, LooksOfNone, RanBatches, Rounds, TookNoMore, left_by}
+use Rattle.domain.specs.Working.{FoundUsedUp, GoesOn, HasMore, HasWorked, IsRound, KeepsFinds, Looks, LooksOfNone, RanBatches, Rounds, left_by}
 
 stands_later : (old new : Log) (q n : ℕ) (o : ObjectId) → Begins old new → IsAt q n o old → IsAt q n o new
 stands_later old new q n o b at = let g = line_grows old new q b in ap (λ (l : List ObjectId). get_elem? l n) g.1 ∙ at_longer (line_of old q) g.0 n o at
@@ -102,6 +102,30 @@ took_batch : (key : Sizes) (q less most f n : ℕ) (looks : Looks) → less ≤ 
 unfolding count_of
 took_batch key q less most f n looks low here took =
     (λ g m rest e s. let same = ap count_of s in omega (arith, here, same), took_other key q most (queued_at key q) n looks (other_count key q) (took_weaker key q less most looks low took))
+
+-- the first look, or another one
+head_of : Look → Looks → Look
+head_of d [] = d
+head_of d (l ∷ ls) = l
+
+-- what a worker looked at as it began, and nothing before
+unfoldable pub began : Sizes → (q first : ℕ) → Looks
+began key q first = Loaded (finished_at key q) first ∷ Stored (work_at key q) 1 ∷ Loaded (work_at key q) 0 ∷ []
+
+-- and then what it found since
+pub took_since : (key : Sizes) (q most first : ℕ) (looks : Looks) → TookNoMore key q most looks → TookNoMore key q most (looks ++ began key q first)
+unfolding place_of head_of began
+took_since key q most first [] took = (
+  (λ f n rest e s. let z : work_at key q ≡ queued_at key q = ap (λ (ls : Looks). place_of (head_of (Loaded 0 0) ls)) s in absurd (omega (arith, z))),
+  (
+    (λ f n rest e s. let z : work_at key q ≡ finished_at key q = ap place_of e in absurd (omega (arith, z))),
+    ((λ f n rest e s. let z : work_at key q ≡ finished_at key q = ap place_of e in absurd (omega (arith, z))), tt),
+  ),
+)
+took_since key q most first (l ∷ []) took =
+    ((λ f n rest e s. let z : finished_at key q ≡ queued_at key q = ap (λ (ls : Looks). place_of (head_of (Loaded 0 0) ls)) s in absurd (omega (arith, z))), took_since key q most first [] tt)
+took_since key q most first (l ∷ m ∷ ls) took =
+    ((λ f n rest e s. took.0 f n ls e (ap (λ (x : Look). x ∷ ls) (ap (head_of (Loaded 0 0)) s))), took_since key q most first (m ∷ ls) took.1)
 
 -- and more is found
 ran_later : (key : Sizes) (q first last : ℕ) (more looks : Looks) → RanBatches key q first last looks → RanBatches key q first last (more ++ looks)

@@ -13,6 +13,7 @@ use Rattle.live_words.specs.live_rule.declared.view.Sizes.{Sizes}
 use Rattle.live_words.specs.live_rule.declared.view.View.{View}
 use Rattle.live_words.specs.live_rule.Places.{finished_at, queued_at, work_at}
 use Rattle.live_words.specs.live_rule.Steps.{Keeps}
+use Rattle.live_words.specs.step_queues.Queues.{TookNoMore}
 use Rattle.live_read.specs.declared.caller.Caller.{Ghosts}
 use Rattle.live_callbacks.specs.Items.{InOrder, JobValue}
 use Rattle.live_callbacks.specs.Batches.{Lists}
@@ -77,11 +78,6 @@ abbrev pub OnlyLoads : Looks → Type 0
 OnlyLoads [] = Unit {0}
 OnlyLoads (Loaded a n ∷ ls) = OnlyLoads ls
 OnlyLoads (Stored a n ∷ ls) = ⊥
-
--- by these looks no batch was of more than this many
-abbrev pub TookNoMore : Sizes → (q most : ℕ) → Looks → Type 0
-TookNoMore key q most [] = Unit {0}
-TookNoMore key q most (l ∷ ls) = ((f n : ℕ) (rest : Looks) → l ≡ Loaded (finished_at key q) f → ls ≡ Loaded (queued_at key q) n ∷ rest → n ≤ most) × TookNoMore key q most ls
 
 -- by these looks a batch was taken of all that was queued up to this number
 abbrev pub TookUpTo : Sizes → (q n : ℕ) → Looks → Type 0

@@ -4,8 +4,9 @@ ghost use Rattle.std.specs.Prelude.{◌≡◌, ◌≢◌, ◌+◌, ◌<◌, ◌�
 ghost use Rattle.live_log.specs.Log.{IsLiveRun, line_of};
 ghost use Rattle.live_words.specs.live_rule.Places.{work_at};
 ghost use Rattle.live_words.specs.live_rule.Seats.{but_work};
-ghost use Rattle.live_words.specs.live_rule.Rights.{IsWorker, work_in};
+ghost use Rattle.live_words.specs.live_rule.Rights.{IsWorker, finished_in, work_in};
 ghost use Rattle.live_words.specs.live_rule.Steps.{IsKnown, IsLater, Keeps, Went, stored_view};
+ghost use Rattle.live_words.specs.step_queues.Queues.{TookNoMore};
 ghost use Rattle.live_read.specs.Hearing.{IsAfter, Stays};
 ghost use Rattle.live_callbacks.specs.Items.{InOrder};
 ghost use Rattle.live_callbacks.specs.Batches.{Lists, WorksFor};
@@ -115,10 +116,12 @@ impl<P: GracePlan + Drop, K: ChainRule, B: Site, D: Deleter> Domain<P, K, B, D> 
         }
     }
 
-    /// Gives the right to work for the queue back, or up for good where the sequence numbers are used up.
+    /// Gives the right to work for the queue back, where each batch that was taken has run, or up for good where the
+    /// sequence numbers are used up.
     fn leave(&self, seat: &mut LiveSeat, queue: usize, stop: Stop)
         requires seat { (seat.old.table_id ≡ B.table) × (queue < B.sizes.queues) }
         requires right { IsWorker seat.old.me.0 × (work_in seat.old.me.0.work ≡ queue) }
+        requires ran { stop ≢ stopped.Exhausted → TookNoMore B.sizes queue (finished_in seat.old.me.0.work) seat.old.me.0.looks }
         ensures seat { Keeps seat.old seat.new }
         ensures left { Went P.QSBR K.allows (stored_view (work_at B.sizes queue) (left_by stop) (but_work seat.old.me.0)) seat.old.me seat.new.me }
     {
@@ -139,7 +142,8 @@ impl<P: GracePlan + Drop, K: ChainRule, B: Site, D: Deleter> Domain<P, K, B, D> 
         queue: usize,
         until: Until,
     ) -> Result<WorkerEnd<B, D>, Refusal>
-        requires { (seat.old.table_id ≡ B.table) × (seat.old.me.0.sizes ≡ B.sizes) × (seat.old.me.1 ≡ []) }
+        requires seat { (seat.old.table_id ≡ B.table) × (seat.old.me.0.sizes ≡ B.sizes) × (seat.old.me.1 ≡ []) }
+        requires fresh { seat.old.me.0.looks ≡ [] }
         ensures seat { (seat.new.table_id ≡ B.table) × (seat.new.me.1 ≡ []) }
         ensures worked { IfOk result (λ e. HasWorked D.row.coded.code D.answers P.QSBR K.allows B.sizes queue seat.old.me.0.seen seat.old.me.0.heard seat.old.me.0.looks seat.new.me.0.looks seat.old.me.0.loads seat.new.me.0.loads e.finished.items e.left.items e.stop seat.new.me.0.seen) }
         ensures until { IfOk result (λ e. (e.stop ≡ stopped.Closed → until ≡ ends.Closed) × (e.stop ≡ stopped.Served → until ≡ ends.Served)) }

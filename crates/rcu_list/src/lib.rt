@@ -10,7 +10,7 @@ mod view;
 pub use domain::{
     AnyChain, BarrierMark, Callback, Caller, Chain, ChainRule, Counts, Deleter, Domain, Finished,
     Handle, Held, Item, Job, Keyed, Lent, LiveConfig, LiveCookie, Opened, Owned, Reader, Ripe,
-    Section, Site, Stop, Tabled, Ticket, Unlinked, WorkerEnd,
+    Section, Site, Stop, Tabled, Ticket, Unlinked, WorkerEnd, readings_fit,
 };
 pub use list::RcuList;
 pub use preparing::{prepare_insertion, prepare_replacement};

@@ -1,5 +1,5 @@
 -- What each step on a queue asks and tells.
-use Rattle.std.specs.Prelude.{Bool, ◌≡◌, ◌≢◌, ℕ, ◌+◌, ◌<◌, ◌≤◌, [], length}
+use Rattle.std.specs.Prelude.{Bool, ◌≡◌, ◌≢◌, ℕ, ◌+◌, ◌<◌, ◌≤◌, List, [], ◌∷◌, length}
 use mathlib.Core.Option.{Option, none, some}
 use lib.ListN.{get_elem?}
 use base.Stored.{gnil}
@@ -11,6 +11,8 @@ use Rattle.live_rule.specs.live_log.declared.event.LiveEvent.TheVariants.{CloseQ
 use Rattle.live_rule.specs.live_log.declared.event.ObjectEvent.TheVariants.{Queue}
 use Rattle.live_rule.specs.live_log.Log.{Log, state_of, line_of, closed_of, HaveRun}
 use Rattle.live_rule.specs.live_log.declared.callback_id.CallbackId.{CallbackId}
+use Rattle.live_rule.specs.declared.view.Look.{Look}
+use Rattle.live_rule.specs.declared.view.Look.TheVariants.{Loaded}
 use Rattle.live_rule.specs.declared.view.Sizes.{Sizes}
 use Rattle.live_rule.specs.declared.view.View.{View}
 use Rattle.live_rule.specs.declared.rights.QueueRight.TheVariants as queue_right
@@ -57,6 +59,12 @@ HasRunAt q n log = (o : ObjectId) × IsAt q n o log × In (state_of log).reclaim
 -- no other queue than those of the table has taken anything
 abbrev pub HasNoOther : Sizes → Log → Type 0
 HasNoOther key log = (q : ℕ) → key.queues ≤ q → line_of log q ≡ []
+
+-- By these looks nobody took a batch of more than this many. A worker takes a batch of all that was queued: it loads that
+-- count, and then the finished one.
+abbrev pub TookNoMore : Sizes → (q most : ℕ) → List Look → Type 0
+TookNoMore key q most [] = Unit {0}
+TookNoMore key q most (l ∷ ls) = ((f n : ℕ) (rest : List Look) → l ≡ Loaded (finished_at key q) f → ls ≡ Loaded (queued_at key q) n ∷ rest → n ≤ most) × TookNoMore key q most ls
 
 -- what a word of a queue tells, by its place
 pub record TellsQueue (key : Sizes) (place q n : ℕ) (log : Log) : Type 0 where

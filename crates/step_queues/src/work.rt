@@ -2,9 +2,9 @@
 ghost use Rattle.std.specs.Prelude.{◌≡◌, ◌≢◌, ◌<◌, ◌≤◌};
 ghost use Rattle.live_rule.specs.Places.{work_at};
 ghost use Rattle.live_rule.specs.Seats.{but_work};
-ghost use Rattle.live_rule.specs.Rights.{IsWorker, work_in};
+ghost use Rattle.live_rule.specs.Rights.{IsWorker, finished_in, work_in};
 ghost use Rattle.live_rule.specs.Steps.{Keeps, Went, looked_view, stored_view};
-ghost use Rattle.step_queues.specs.Queues.{TookWork};
+ghost use Rattle.step_queues.specs.Queues.{TookNoMore, TookWork};
 
 use crate::plays::{FreesWork, HoldsWork};
 use live_rule::{ChainRule, GracePlan, LiveSeat, LiveTable};
@@ -31,7 +31,7 @@ pub fn hold_work<P: GracePlan, K: ChainRule>(
 }
 
 /// Gives the right to work for a queue back, so that another can have it: its hold word becomes 0, which is kept among
-/// the looks.
+/// the looks. The worker has finished each batch that it took, by its looks.
 pub fn free_work<P: GracePlan, K: ChainRule>(
     table: &LiveTable<P, K>,
     seat: &mut LiveSeat,
@@ -39,6 +39,7 @@ pub fn free_work<P: GracePlan, K: ChainRule>(
 )
     requires seat { (seat.old.table_id ≡ table.now.words.shared.table_id) × (queue < table.now.queues) }
     requires right { IsWorker seat.old.me.0 × (work_in seat.old.me.0.work ≡ queue) }
+    requires ran { TookNoMore table.now.words.shared.key queue (finished_in seat.old.me.0.work) seat.old.me.0.looks }
     ensures seat { Keeps seat.old seat.new }
     ensures freed { Went P.QSBR K.allows (stored_view (work_at table.now.words.shared.key queue) 0 (but_work seat.old.me.0)) seat.old.me seat.new.me }
 {

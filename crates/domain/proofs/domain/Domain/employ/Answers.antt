@@ -1,7 +1,23 @@
-use Rattle.domain.proofs.Cited.{rules, ◌≡◌, ℕ, List, ◌∷◌, ◌++◌, length, refl, ap, ◌∙◌, ObjectId, Log, Begins, begins_trans, closed_stays, Look, Loaded, Stored, Sizes, View, finished_at, work_at}
+use Rattle.domain.proofs.Cited.{rules, ◌≡◌, ℕ, List, ◌∷◌, ◌++◌, ◌+◌, length, refl, sym, ap, ◌∙◌, subst, arith, ObjectId, Log, Begins, begins_trans, closed_stays, Look, Loaded, Stored, Sizes, View, finished_at, work_at, finished_in, TookNoMore}
 use Rattle.domain.specs.Working.{Looks, left_by}
-use Rattle.domain.proofs.Running.{list_later, more_known, order_later, ran_through}
+use Rattle.domain.proofs.Running.{began, list_later, more_known, order_later, ran_through, took_since}
 use Rattle.domain.proofs.domain.Domain.employ.Goals as goal
+
+pub leave-requires-clause-ran : goal.leave-requires-clause-ran
+unfolding began
+leave-requires-clause-ran g c other =
+    let q = c.args.queue in
+    let sizes = g.B.Site.sizes in
+    let first : ℕ = c.in_ok-first.first in
+    let n : ℕ = c.work_until-stop.result.0 in
+    let w = c.work_until-stop.ensures in
+    let v : View = c.work_until-stop.new.seat.me.0 in
+    let key : c.deref.result.now.words.shared.key ≡ sizes = search rules in
+    let many : n + length c.work_until-stop.new.left.items ≡ n = let none = ap (λ xs. length xs) (w.left.1 other) in omega (arith, none) in
+    let looks : v.looks ≡ w.rounds.found ++ began sizes q first =
+    w.rounds.looks ∙ ap (λ (l : Looks). w.rounds.found ++ l) (c.in_ok-first.ensures.begun.6 ∙ (ap (λ (l : Looks). Loaded (finished_at c.deref.result.now.words.shared.key q) first ∷ Stored (work_at c.deref.result.now.words.shared.key q) 1 ∷ Loaded (work_at c.deref.result.now.words.shared.key q) 0 ∷ l) c.requires.fresh ∙ ap (λ (k : Sizes). began k q first) key)) in
+    subst (TookNoMore sizes q (finished_in v.work)) (sym looks)
+    (subst (λ (k : ℕ). TookNoMore sizes q k (w.rounds.found ++ began sizes q first)) (many ∙ sym (ap finished_in w.work)) (took_since sizes q (n + length c.work_until-stop.new.left.items) first w.rounds.found w.rounds.took))
 
 pub returns-clause-worked : goal.returns-clause-worked
 returns-clause-worked g c =

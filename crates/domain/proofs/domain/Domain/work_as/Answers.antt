@@ -3,6 +3,9 @@ use Rattle.domain.specs.Working.{HasWorked, Looks}
 use Rattle.domain.proofs.Running.{worked_for}
 use Rattle.domain.proofs.domain.Domain.work_as.Goals as goal
 
+pub employ-end-requires-clause-fresh : goal.employ-end-requires-clause-fresh
+employ-end-requires-clause-fresh g c = ap (λ m. m.0.looks) c.tell-seat.ensures.seat.1
+
 pub returns-clause-worked : goal.returns-clause-worked
 returns-clause-worked g c =
     let qsbr = g.P.GracePlan.QSBR in
