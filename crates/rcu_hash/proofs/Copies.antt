@@ -1,5 +1,6 @@
 -- What copies of keys tell, on their way and once each one is in its chain.
-use Rattle.rcu_hash.proofs.Cited.Words.{◌≡◌, ◌≢◌, ◌⊎◌, ℕ, zero, suc, ◌+◌, ◌%◌, ◌<◌, ◌==◌, Bool, true, false, if◌then◌else◌, List, [], ◌∷◌, ◌++◌, length, map, take, set, append_assoc, Option, Some, None, slice_get, slice_index_or, refl, sym, ap, ◌∙◌, subst, inl, inr, ⊎_elim, arith, eq-eqb, ne_eqb, dite, ℕ_discrete, Me, ObjectId, In, at_object_same, in_left, none_some, key_of, rank_of, Falls, Log, Begins, IsLiveRun, record_of, payload_of, words_in, IsUnnoted, tabled, begins_trans, chain_used, note_stays, run_of, tabled_maps, lent_chains, ChainRight, Look, Sizes, View, IsListed, IsWriter, cell_in, object_in, own_in, payload_in, Went, MayPublish, Publishes, list_in, push_by, AreTaken, GetsNoRecord, IsUsedUp, index_has, went_both, value_in, value_of, words_of, comes_above, keys_pushed, note_walked, same_own, value_same, AreApart, AreRanked, value_among, Each, HasKeysIn, HasNoNote, IsAlone, IsEmpty, value_at, slice_get_within}
+use Rattle.rcu_hash.proofs.Cited.Words.{◌≡◌, ◌≢◌, ◌⊎◌, ℕ, zero, suc, ◌+◌, ◌%◌, ◌<◌, ◌==◌, Bool, if◌then◌else◌, List, [], ◌∷◌, ◌++◌, length, map, take, set, append_assoc, Option, Some, None, slice_get, slice_index_or, refl, sym, ap, ◌∙◌, subst, inl, inr, ⊎_elim, arith, dite, ℕ_discrete, Me, ObjectId, In, at_object_same, in_left, none_some, key_of, rank_of, Falls, Log, IsLiveRun, record_of, payload_of, words_in, IsUnnoted, tabled, begins_trans, tabled_maps, lent_chains, ChainRight, Look, Sizes, View, IsListed, IsWriter, cell_in, object_in, own_in, payload_in, Went, MayPublish, Publishes, list_in, push_by, AreTaken, GetsNoRecord, IsUsedUp, index_has, went_both, value_in, value_of, words_of, comes_above, keys_pushed, note_walked, same_own, value_same, AreApart, AreRanked, value_among, Each, HasKeysIn, HasNoNote, IsAlone, IsEmpty, value_at, slice_get_within, nat_tests, common_steps, gets}
+use Rattle.rcu_hash.proofs.Holds.{note_listed}
 
 -- the first of two answers, if there is one
 abbrev pub or_else : Option ℕ → Option ℕ → Option ℕ
@@ -7,48 +8,23 @@ or_else None y = y
 or_else (Some x) y = Some x
 
 pub or_none : (x : Option ℕ) → or_else x None ≡ x
-or_none None = refl
-or_none (Some x) = refl
-
-if_first : (b : Bool) (x : ℕ) (y z : Option ℕ) → (if b then Some x else or_else y z) ≡ or_else (if b then Some x else y) z
-if_first true x y z = refl
-if_first false x y z = refl
+or_none x = grind arith
 
 -- entries behind others
 pub among_both : (es fs : List (ℕ × ℕ)) (key : ℕ) → value_among (es ++ fs) key ≡ or_else (value_among es key) (value_among fs key)
 among_both [] fs key = refl
-among_both (e ∷ es) fs key = ap (λ (x : Option ℕ). if e.0 == key then Some e.1 else x) (among_both es fs key) ∙ if_first (e.0 == key) e.1 (value_among es key) (value_among fs key)
+among_both (e ∷ es) fs key = let rest = among_both es fs key in grind (arith, nat_tests)
 
 pub value_both : (note : ObjectId → ℕ × List ℕ) (os ps : List ObjectId) (key : ℕ) → value_in note (os ++ ps) key ≡ or_else (value_in note os key) (value_in note ps key)
 value_both note [] ps key = refl
-value_both note (o ∷ os) ps key = ap (λ (x : Option ℕ). if key_of (note o) == key then Some (value_of (note o)) else x) (value_both note os ps key) ∙ if_first (key_of (note o) == key) (value_of (note o)) (value_in note os key) (value_in note ps key)
+value_both note (o ∷ os) ps key = let rest = value_both note os ps key in grind (arith, nat_tests)
 
--- what a test for a key's first place gave
-if_none : (b : Bool) (x : ℕ) (y : Option ℕ) → (if b then Some x else y) ≡ None → (b ≡ false) × (y ≡ None)
-if_none true x y e = absurd (none_some x (sym e))
-if_none false x y e = (refl, e)
-
-not_same : (m n : ℕ) → (m == n) ≡ false → m ≢ n
-not_same m n off same = let e : true ≡ false = sym (eq-eqb m n same) ∙ off in absurd (unlike e)
-  where
-    unlike : true ≡ false → ⊥
-    unlike e = cc
-
-pub other_key : (e : ℕ × ℕ) (es : List (ℕ × ℕ)) (key : ℕ) → value_among (e ∷ es) key ≡ None → (e.0 ≢ key) × (value_among es key ≡ None)
-other_key e es key none = let both = if_none (e.0 == key) e.1 (value_among es key) none in (not_same e.0 key both.0, both.1)
-
--- an entry alone
-pub one_among : (e : ℕ × ℕ) (key : ℕ) → e.0 ≢ key → value_among (e ∷ []) key ≡ None
-one_among e key other = ap (λ (b : Bool). if b then Some e.1 else None) (ne_eqb e.0 key other)
-
--- an entry of a key that was not there, behind the others or before them
+-- an entry of a key that was not there, behind the others
 pub more_apart : (es : List (ℕ × ℕ)) (e : ℕ × ℕ) → AreApart es → value_among es e.0 ≡ None → AreApart (es ++ e ∷ [])
 more_apart [] e apart none = (refl, tt)
 more_apart (x ∷ xs) e apart none =
-    let other = other_key x xs e.0 none in (
-      among_both xs (e ∷ []) x.0 ∙ (ap (λ (y : Option ℕ). or_else y (value_among (e ∷ []) x.0)) apart.0 ∙ one_among e x.0 (λ same. other.0 (sym same))),
-      more_apart xs e apart.1 other.1,
-    )
+    let both = among_both xs (e ∷ []) x.0 in let other : (x.0 ≢ e.0) × (value_among xs e.0 ≡ None) = grind (arith, nat_tests) in
+    (grind (arith, nat_tests), more_apart xs e apart.1 other.1)
 
 pub more_ranked : (n : ℕ) (rs : List ℕ) → AreRanked n rs → AreRanked n (rs ++ (n + length rs) ∷ [])
 more_ranked n [] ranked = (omega arith, tt)
@@ -57,40 +33,23 @@ more_ranked n (r ∷ rs) ranked = (ranked.0, let next = more_ranked (n + 1) rs r
 -- of entries that are apart none before one has its key
 pub apart_before : (es fs : List (ℕ × ℕ)) (e : ℕ × ℕ) → AreApart (es ++ e ∷ fs) → value_among es e.0 ≡ None
 apart_before [] fs e apart = refl
-apart_before (x ∷ xs) fs e apart =
-    let none = sym (among_both xs (e ∷ fs) x.0) ∙ apart.0 in
-    let other : e.0 ≢ x.0 = (other_key e fs x.0 (second (value_among xs x.0) (value_among (e ∷ fs) x.0) none)).0 in
-    ap (λ (b : Bool). if b then Some x.1 else value_among xs e.0) (ne_eqb x.0 e.0 (λ same. other (sym same))) ∙ apart_before xs fs e apart.1
-  where
-    second : (y z : Option ℕ) → or_else y z ≡ None → z ≡ None
-    second None z e = e
-    second (Some a) z e = absurd (none_some a (sym e))
+apart_before (x ∷ xs) fs e apart = let both = among_both xs (e ∷ fs) x.0 in let rest = apart_before xs fs e apart.1 in grind (arith, nat_tests)
 
 -- no object has a key that has no value
 pub none_has : (note : ObjectId → ℕ × List ℕ) (os : List ObjectId) (key : ℕ) → value_in note os key ≡ None → (o : ObjectId) → In os o → key_of (note o) ≢ key
 none_has note [] key none o h = absurd h
-none_has note (x ∷ xs) key none o h =
-    let both = if_none (key_of (note x) == key) (value_of (note x)) (value_in note xs key) none in ⊎_elim
-    (λ (e : x ≡ o). subst (λ (p : ObjectId). key_of (note p) ≢ key) e (not_same (key_of (note x)) key both.0))
-    (λ (k : In xs o). none_has note xs key both.1 o k)
-    h
+none_has note (x ∷ xs) key none o (inl is) = grind (arith, nat_tests)
+none_has note (x ∷ xs) key none o (inr h) = let rest = none_has note xs key in grind (arith, nat_tests)
 
 -- the objects before an index, and the one there
-taken_after : {X : Type 0} (xs : List X) (index : ℕ) (x : X) → slice_get xs index ≡ Some x → take (suc index) xs ≡ take index xs ++ x ∷ []
-taken_after [] index x at = absurd (none_some x at)
-taken_after (y ∷ ys) zero x at = let e : y ≡ x = cc in ap (λ z. z ∷ []) e
-taken_after (y ∷ ys) (suc index) x at = ap (λ zs. y ∷ zs) (taken_after ys index x at)
-
 pub next_taken : {X : Type 0} (xs : List X) (index : ℕ) (x : X) → slice_get xs index ≡ Some x → take (index + 1) xs ≡ take index xs ++ x ∷ []
-next_taken xs index x at = let next : suc index ≡ index + 1 = omega arith in subst (λ n. take n xs ≡ take index xs ++ x ∷ []) next (taken_after xs index x at)
+next_taken xs index x at = grind (arith, common_steps, gets)
 
 -- a key is not among those of the objects before the one that has it
 pub none_before : (note : ObjectId → ℕ × List ℕ) (os : List ObjectId) (index : ℕ) (o : ObjectId) → Falls note os → slice_get os index ≡ Some o → value_in note (take index os) (key_of (note o)) ≡ None
-none_before note [] index o falls at = absurd (none_some o at)
+none_before note [] index o falls at = grind arith
 none_before note (x ∷ xs) zero o falls at = refl
-none_before note (x ∷ xs) (suc index) o falls at =
-    ap (λ (b : Bool). if b then Some (value_of (note x)) else value_in note (take index xs) (key_of (note o))) (ne_eqb (key_of (note x)) (key_of (note o)) (λ same. (falls.0 o (index_has xs index o at)).0 (sym same)))
-    ∙ none_before note xs index o falls.1 at
+none_before note (x ∷ xs) (suc index) o falls at = let rest = none_before note xs index o falls.1 at in let other = (falls.0 o (index_has xs index o at)).0 in grind (arith, nat_tests)
 
 -- what is so of each one
 pub each_at : {X : Type 0} (is_so : X → Type 0) (xs : List X) (index : ℕ) (x : X) → Each is_so xs → slice_get xs index ≡ Some x → is_so x
@@ -105,33 +64,15 @@ each_set is_so (y ∷ ys) zero x each one = (one, each.1)
 each_set is_so (y ∷ ys) (suc index) x each one = (each.0, each_set is_so ys index x each.1 one)
 
 pub get_set_same : {X : Type 0} (xs : List X) (index : ℕ) (x : X) → index < length xs → slice_get (set xs index x) index ≡ Some x
-get_set_same [] index x low = absurd (omega arith)
-get_set_same (y ∷ ys) zero x low = refl
-get_set_same (y ∷ ys) (suc index) x low = get_set_same ys index x (omega arith)
+get_set_same xs index x low = grind (arith, common_steps, gets)
 
 pub get_set_other : {X : Type 0} (xs : List X) (index k : ℕ) (x : X) → k ≢ index → slice_get (set xs index x) k ≡ slice_get xs k
-get_set_other [] zero k x other = refl
-get_set_other [] (suc index) k x other = refl
-get_set_other (y ∷ ys) zero zero x other = absurd (other refl)
-get_set_other (y ∷ ys) zero (suc k) x other = refl
-get_set_other (y ∷ ys) (suc index) zero x other = refl
-get_set_other (y ∷ ys) (suc index) (suc k) x other = get_set_other ys index k x (λ e. other (ap suc e))
+get_set_other xs index k x other = grind (arith, common_steps, gets)
 
 -- Entries that hold the keys, with this number modulo this one, of the objects before an index, behind those of others.
 module _ (note : ObjectId → ℕ × List ℕ) (os : List ObjectId) (buckets number : ℕ) (before : List (ℕ × ℕ)) where
   abbrev pub IsCopied : ℕ → List (ℕ × ℕ) → Type 0
   IsCopied index es = ((key : ℕ) → value_among es key ≡ (if key % buckets == number then value_in note (take index os) key else value_among before key)) × AreApart es
-
-  either : (key : ℕ) (x y z : Option ℕ) → (key % buckets ≡ number → z ≡ x) → (key % buckets ≢ number → z ≡ y) → z ≡ (if key % buckets == number then x else y)
-  either key x y z same other = dite (ℕ_discrete (key % buckets) number)
-      (λ is. same is ∙ ap (λ (b : Bool). if b then x else y) (sym (eq-eqb (key % buckets) number is)))
-      (λ is. other is ∙ ap (λ (b : Bool). if b then x else y) (sym (ne_eqb (key % buckets) number is)))
-
-  in_same : (key : ℕ) (x y z : Option ℕ) → key % buckets ≡ number → z ≡ (if key % buckets == number then x else y) → z ≡ x
-  in_same key x y z is e = e ∙ ap (λ (b : Bool). if b then x else y) (eq-eqb (key % buckets) number is)
-
-  in_other : (key : ℕ) (x y z : Option ℕ) → key % buckets ≢ number → z ≡ (if key % buckets == number then x else y) → z ≡ y
-  in_other key x y z is e = e ∙ ap (λ (b : Bool). if b then x else y) (ne_eqb (key % buckets) number is)
 
   module _ (index : ℕ) (es : List (ℕ × ℕ)) (o : ObjectId) (at : slice_get os index ≡ Some o) (copied : IsCopied index es) where
     abbrev key_at : ℕ
@@ -144,21 +85,12 @@ module _ (note : ObjectId → ℕ × List ℕ) (os : List ObjectId) (buckets num
     one_more key = ap (λ (l : List ObjectId). value_in note l key) (next_taken os index o at) ∙ value_both note (take index os) (o ∷ []) key
 
     pub copied_skip : key_at % buckets ≢ number → IsCopied (index + 1) es
-    copied_skip apart = (
-      λ key. either key (value_in note (take (index + 1) os) key) (value_among before key) (value_among es key)
-          (λ is. in_same key (value_in note (take index os) key) (value_among before key) (value_among es key) is (copied.0 key)
-          ∙ sym (one_more key ∙ (ap (or_else (value_in note (take index os) key)) (one_among entry key (λ same. apart (ap (λ (n : ℕ). n % buckets) same ∙ is))) ∙ or_none (value_in note (take index os) key))))
-          (λ is. in_other key (value_in note (take index os) key) (value_among before key) (value_among es key) is (copied.0 key)),
-      copied.1,
-    )
+    copied_skip apart = (λ key. let was = copied.0 key in let more = one_more key in let none = or_none (value_in note (take index os) key) in grind (arith, nat_tests), copied.1)
 
     pub copied_more : Falls note os → key_at % buckets ≡ number → IsCopied (index + 1) (es ++ entry ∷ [])
     copied_more falls here = (
-      λ key. either key (value_in note (take (index + 1) os) key) (value_among before key) (value_among (es ++ entry ∷ []) key)
-          (λ is. among_both es (entry ∷ []) key ∙ (ap (λ (x : Option ℕ). or_else x (value_among (entry ∷ []) key)) (in_same key (value_in note (take index os) key) (value_among before key) (value_among es key) is (copied.0 key)) ∙ sym (one_more key)))
-          (λ is. among_both es (entry ∷ []) key ∙ (ap (or_else (value_among es key)) (one_among entry key (λ same. is (ap (λ (n : ℕ). n % buckets) (sym same) ∙ here)))
-          ∙ (or_none (value_among es key) ∙ in_other key (value_in note (take index os) key) (value_among before key) (value_among es key) is (copied.0 key)))),
-      more_apart es entry copied.1 (in_same key_at (value_in note (take index os) key_at) (value_among before key_at) (value_among es key_at) here (copied.0 key_at) ∙ none_before note os index o falls at),
+      λ key. let was = copied.0 key in let more = one_more key in let both = among_both es (entry ∷ []) key in let none = or_none (value_among es key) in grind (arith, nat_tests),
+      more_apart es entry copied.1 (let was = copied.0 key_at in let none = none_before note os index o falls at in grind (arith, nat_tests)),
     )
 
 -- One more entry comes into the chain of its key, where `value` tells what a key has in a chain.
@@ -168,19 +100,10 @@ module _ {X : Type 0} (value : Option X → ℕ → Option ℕ) (buckets : ℕ) 
       ((key : ℕ) → value (slice_get vs (key % buckets)) key ≡ value_among done key) →
       (key : ℕ) → value (slice_get (set vs (e.0 % buckets) w) (key % buckets)) key ≡ value_among (done ++ e ∷ []) key
   filled_more e v w at none first filled key =
-      let here : slice_get (set vs (e.0 % buckets) w) (e.0 % buckets) ≡ Some w = get_set_same vs (e.0 % buckets) w (slice_get_within vs (e.0 % buckets) v at) in
-      dite (ℕ_discrete e.0 key)
-      (λ is. ap (λ (n : ℕ). value (slice_get (set vs (e.0 % buckets) w) (n % buckets)) key) (sym is)
-      ∙ (ap (λ (x : Option X). value x key) here ∙ (first key ∙ (ap (λ (b : Bool). if b then Some e.1 else value (Some v) key) (eq-eqb e.0 key is)
-      ∙ sym (among_both done (e ∷ []) key ∙ (ap (λ (x : Option ℕ). or_else x (value_among (e ∷ []) key)) (ap (value_among done) (sym is) ∙ none) ∙ ap (λ (b : Bool). if b then Some e.1 else None) (eq-eqb e.0 key is)))))))
-      (λ other. still here other ∙ (filled key ∙ sym (among_both done (e ∷ []) key ∙ (ap (or_else (value_among done key)) (one_among e key other) ∙ or_none (value_among done key)))))
-    where
-      still : slice_get (set vs (e.0 % buckets) w) (e.0 % buckets) ≡ Some w → e.0 ≢ key → value (slice_get (set vs (e.0 % buckets) w) (key % buckets)) key ≡ value (slice_get vs (key % buckets)) key
-      still here other = dite (ℕ_discrete (key % buckets) (e.0 % buckets))
-          (λ same. ap (λ (n : ℕ). value (slice_get (set vs (e.0 % buckets) w) n) key) same
-          ∙ (ap (λ (x : Option X). value x key) here ∙ (first key ∙ (ap (λ (b : Bool). if b then Some e.1 else value (Some v) key) (ne_eqb e.0 key other)
-          ∙ (ap (λ (x : Option X). value x key) (sym at) ∙ ap (λ (n : ℕ). value (slice_get vs n) key) (sym same))))))
-          (λ apart. ap (λ (x : Option X). value x key) (get_set_other vs (e.0 % buckets) (key % buckets) w apart))
+      let here = get_set_same vs (e.0 % buckets) w (slice_get_within vs (e.0 % buckets) v at) in let both = among_both done (e ∷ []) key in let all = or_none (value_among done key) in
+      let new = first key in let old = filled key in dite (ℕ_discrete (key % buckets) (e.0 % buckets))
+      (λ same. grind (arith, nat_tests))
+      (λ apart. let other = get_set_other vs (e.0 % buckets) (key % buckets) w apart in grind (arith, nat_tests))
 
 -- no record was free where none was had
 pub none_free : (sizes : Sizes) (found : List Look) → GetsNoRecord sizes found → IsUsedUp sizes found ⊎ AreTaken sizes found
@@ -251,9 +174,7 @@ module _ (qsbr : Bool) (v : View) (seen heard owner : Log) (own : IsWriter v) (l
 
   module _ (w : View) (put : Publishes qsbr tabled v seen heard owner (push_by v u) w.seen) (list : list_in w ≡ object_in u.object ∷ list_in v) where
     note_still : (o : ObjectId) → In (list_in v) o → record_of w.seen o ≡ record_of v.seen o
-    note_still o h =
-        let later : Begins v.seen w.seen = begins_trans v.seen put.before w.seen put.after.after_writer.0 (_ ∷ [], put.wrote) in
-        note_stays qsbr tabled v.seen w.seen o later put.run (chain_used qsbr tabled v.seen (own_in v.chains).chain o (run_of qsbr tabled v.seen w.seen later put.run) (subst (λ (l : List ObjectId). In l o) (sym listed.0) h))
+    note_still o h = note_listed qsbr v w.seen o listed (begins_trans v.seen put.before w.seen put.after.after_writer.0 (_ ∷ [], put.wrote)) put.run h
 
     note_put : record_of w.seen (object_in u.object) ≡ (cell_in u.object, words_of key value rank)
     note_put = ap (λ (l : Log). record_of l (object_in u.object)) put.wrote ∙ (at_object_same (object_in u.object) (cell_in u.object, payload_in u.object) (record_of put.before) ∙ ap (λ (l : List ℕ). (cell_in u.object, l)) words)

@@ -1,5 +1,5 @@
 -- How much earlier directories left, by the rights of the writers of their chains.
-use Rattle.rcu_hash.proofs.Cited.Words.{Bool, ◌≡◌, ⊎_elim, ℕ, ◌+◌, ◌<◌, List, [], ◌∷◌, ◌++◌, Option, None, Some, length, map, option_map, slice_get, set, inl, inr, refl, sym, ap, ◌∙◌, subst, arith, zero, suc, bool_byte, is_some, ∥∥₁_map, cases_lt, map-append, ObjectId, In, LiveEvent, Log, Begins, IsLiveRun, closed_stays, none_some, some_is, ChainRight, Refusal, View, OnlyHears, stays_both, Ghosts, own_in, During, AreInRow, CountsLeft, IsRest, IsStopped, LeavesOnly, LinksStill, chains_in, numbers_of, objects_in, one_if, sum_of, AreFrom, Each, length_of, lengths_of, rights_of, length-map}
+use Rattle.rcu_hash.proofs.Cited.Words.{Bool, ◌≡◌, ℕ, ◌+◌, List, [], ◌∷◌, ◌++◌, Option, None, Some, length, map, option_map, slice_get, set, inl, inr, refl, sym, ap, ◌∙◌, subst, arith, zero, suc, bool_byte, is_some, ∥∥₁_map, map-append, ObjectId, In, LiveEvent, Log, Begins, IsLiveRun, closed_stays, none_some, some_is, ChainRight, Refusal, View, OnlyHears, stays_both, Ghosts, own_in, During, AreInRow, CountsLeft, IsRest, IsStopped, LeavesOnly, LinksStill, chains_in, numbers_of, objects_in, one_if, sum_of, AreFrom, length_of, lengths_of, rights_of, length-map, common_steps}
 use Rattle.rcu_hash.proofs.Holds.{each_map, from_last, from_rights, lengths_many, rights_many}
 use Rattle.rcu_hash.proofs.Taking.{during_since}
 
@@ -33,8 +33,7 @@ byte_is None b is = ap bool_byte is
 byte_is (Some x) b is = ap bool_byte is
 
 pub one_is : {A B : Type 0} (f : A → B) (r : Option A) → one_if (option_map f r) ≡ one_if r
-one_is f None = refl
-one_is f (Some x) = refl
+one_is f r = grind arith
 
 -- the last of a row, and the others
 from_both : (first : ℕ) (vs : List View) (v : View) → AreFrom first (vs ++ v ∷ []) → AreFrom first vs × ((own_in v.chains).chain ≡ first + length vs)
@@ -55,18 +54,12 @@ module _ {X : Type 0} (f : X → View) where
 
   -- and stay where one is put in the place of another with the same right
   pub rights_set : (xs : List X) (k : ℕ) (x was : X) → slice_get xs k ≡ Some was → own_in (f x).chains ≡ own_in (f was).chains → rights_of (map f (set xs k x)) ≡ rights_of (map f xs)
-  rights_set [] zero x was at same = refl
-  rights_set [] (suc k) x was at same = refl
-  rights_set (y ∷ ys) zero x was at same =
-      let one : y ≡ was = cc in
-      ap (λ (r : ChainRight). r ∷ rights_of (map f ys)) (same ∙ ap (λ (z : X). own_in (f z).chains) (sym one))
-  rights_set (y ∷ ys) (suc k) x was at same = ap (λ (l : List ChainRight). own_in (f y).chains ∷ l) (rights_set ys k x was at same)
+  rights_set [] k x was at same = grind (arith, common_steps)
+  rights_set (y ∷ ys) zero x was at same = grind arith
+  rights_set (y ∷ ys) (suc k) x was at same = let rest = rights_set ys k x was at same in grind arith
 
   pub rights_ended : (xs all other : List X) (x y : X) → all ≡ xs ++ x ∷ [] → other ≡ xs ++ y ∷ [] → own_in (f x).chains ≡ own_in (f y).chains → rights_of (map f all) ≡ rights_of (map f other)
-  rights_ended xs all other x y is also same =
-      rights_are all ∙ ap (map (λ z. own_in (f z).chains)) is ∙ map-append (λ z. own_in (f z).chains) xs (x ∷ [])
-      ∙ ap (λ (r : ChainRight). map (λ z. own_in (f z).chains) xs ++ r ∷ []) same
-      ∙ sym (rights_are other ∙ ap (map (λ z. own_in (f z).chains)) also ∙ map-append (λ z. own_in (f z).chains) xs (y ∷ []))
+  rights_ended xs all other x y is also same = let one = rights_are all in let two = rights_are other in grind (arith, map-append)
 
   pub many_lengths : (xs : List X) → length (lengths_of (rights_of (map f xs))) ≡ length xs
   many_lengths xs = lengths_many (rights_of (map f xs)) ∙ (rights_many (map f xs) ∙ length-map xs f)
@@ -78,15 +71,6 @@ module _ {X : Type 0} (f : X → View) where
   length_at [] k x at = absurd (none_some x at)
   length_at (y ∷ ys) zero x at = ap (λ (z : X). Some (length_of (own_in (f z).chains))) (some_is y x at)
   length_at (y ∷ ys) (suc k) x at = length_at ys k x at
-
--- at places below a number, and at that one, each is below the next
-pub below_next : {X : Type 0} (n : ℕ) (P : ℕ → X → Type 0) → ((k : ℕ) (x : X) → k < n → P k x) → ((x : X) → P n x) → (k : ℕ) (x : X) → k < n + 1 → P k x
-below_next n P below here k x low = ⊎_elim (λ under. below k x under) (λ over. let same : n ≡ k = omega (arith, low, over) in subst (λ (j : ℕ). P j x) same (here x)) (cases_lt k n)
-
--- what is so at each place is so of each one
-pub each_place : {X : Type 0} (is_so : X → Type 0) (xs : List X) → ((k : ℕ) (x : X) → slice_get xs k ≡ Some x → is_so x) → Each is_so xs
-each_place is_so [] at = tt
-each_place is_so (x ∷ xs) at = (at 0 x refl, each_place is_so xs (λ k y here. at (suc k) y here))
 
 pub only_both : {W S : Type 0} (w : Ghosts W S) (a b c : W) → OnlyHears w a b → OnlyHears w b c → OnlyHears w a c
 only_both w a b c x y = ((stays_both w a b c x.0.0 y.0.0, y.0.1 ∙ x.0.1), y.1 ∙ x.1)

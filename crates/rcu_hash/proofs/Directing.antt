@@ -1,15 +1,10 @@
 -- A bucket to which a directory led answers for the table: while the directory is linked, and afterwards by what the
 -- table had when another one took its place, since the bucket stays as long as a section of then is open.
-use Rattle.rcu_hash.proofs.Cited.Words.{Bool, ◌≡◌, ℕ, ◌<◌, ◌&&◌, List, [], ◌∷◌, ◌++◌, append_assoc, Some, None, cond, true, false, refl, sym, ap, ◌∙◌, subst, ⊎_elim, arith, eqb-true, ltb-true, mod_below, some, ObjectId, In, first_of, first_has, LiveEvent, Close, Object, Replace, Log, Begins, Has, IsLiveRun, record_of, open_of, state_of, IsDirectory, IsReplaced, Names, kind_of, tabled, begins_trans, chain_used, directory_alone, directory_there, has_later, left_stays, linked_or_replaced, note_stays, run_of, still, map_of, value_in, value_same, AnswersLinked, AnswersThrough, bucket_in, buckets_in, directed_map, leads, value_through}
-
--- both of two facts
-pub both : (a b : Bool) → (a && b) ≡ true → (a ≡ true) × (b ≡ true)
-both true b is = (refl, is)
-both false b is = cc
+use Rattle.rcu_hash.proofs.Cited.Words.{Bool, ◌≡◌, ℕ, ◌<◌, List, [], ◌∷◌, ◌++◌, append_assoc, Some, None, cond, true, refl, sym, ap, ◌∙◌, subst, ⊎_elim, arith, mod_below, some, ObjectId, In, first_of, first_has, LiveEvent, Close, Object, Replace, Log, Begins, Has, IsLiveRun, record_of, open_of, state_of, IsDirectory, IsReplaced, Names, kind_of, tabled, begins_trans, chain_used, directory_alone, directory_there, has_later, left_stays, linked_or_replaced, note_stays, run_of, still, map_of, value_in, value_same, AnswersLinked, AnswersThrough, bucket_in, buckets_in, directed_map, leads, value_through, nat_tests}
 
 module _ (chains key : ℕ) (x : ℕ × List ℕ) (led : leads chains x key ≡ true) where
   leads_by : (kind_of x ≡ 1) × (0 < buckets_in x) × (bucket_in x key < chains)
-  leads_by = let p = both _ _ led in let q = both _ _ p.1 in (eqb-true (kind_of x) 1 p.0, ltb-true 0 (buckets_in x) q.0, ltb-true (bucket_in x key) chains q.1)
+  leads_by = grind (arith, nat_tests)
 
   names : Names x (bucket_in x key)
   names = let m = mod_below key (buckets_in x) leads_by.1 in (omega arith, omega arith)

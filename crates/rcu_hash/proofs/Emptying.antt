@@ -1,9 +1,9 @@
 -- What an earlier directory left is free once a grace period has been waited for, and no part of the table's map.
-use Rattle.rcu_hash.proofs.Cited.Words.{Gv, Bool, ◌≡◌, ◌≢◌, ◌⊎◌, ℕ, ◌+◌, ◌%◌, ◌^◌, ◌<◌, ◌≤◌, List, [], ◌∷◌, ◌++◌, append_assoc, Some, length, map, reverse, take, suc, zero, slice_get, refl, sym, ap, ◌∙◌, subst, inl, inr, ⊎_elim, arith, Option, None, IfSome, Result, Ok, Err, IfErr, ∥∥₁_elim, ∥∥₁_map, append-nil, map-append, reverse-append, mod_below, ObjectId, Refusal, In, same_object, without_object, Once, Tells, at_number_same, in_append, in_left, none_some, object_tells, some_is, LiveEvent, ChainNote, Close, Object, Cut, Queue, Replace, Retire, Falls, Log, Begins, Has, HaveEnded, IsLiveRun, chain_note, record_of, state_of, HasKey, IsDirectory, IsFree, IsNamed, reserved, tabled, begins_trans, chain_used, falls_cut, has_later, is_noted, kept_log, left_is_freed, linked_between, note_stays, run_of, tabled_maps, hold_at, Look, Stored, Sizes, View, AreAsKnown, IsListed, IsWriter, own_in, Queues, MakesMany, OnlyMakesLast, Stays, more_made, none_made, Ghosts, RefusesRetirement, MayPublish, list_in, KnowsKeys, directed_map, LeavesMap, Writes, bucket_of, FindsMore, AreFreed, ClearsNote, Cuts, Clears, Does, Follow, HasWaited, IsLeft, IsRefused, Kind, Retires, Uses, WasReplaced, callbacks_by, callbacks_in, cleared_by, cleared_in, change_by, changes_in, objects_in, Each, HasKeysIn, HasNote, IsAlone, IsOutside, Naming, HasRight, LinksStill, length_of}
+use Rattle.rcu_hash.proofs.Cited.Words.{Gv, Bool, ◌≡◌, ◌≢◌, ◌⊎◌, ℕ, ◌+◌, ◌%◌, ◌^◌, ◌<◌, ◌≤◌, List, [], ◌∷◌, ◌++◌, append_assoc, Some, length, map, reverse, take, zero, slice_get, refl, sym, ap, ◌∙◌, subst, inl, inr, ⊎_elim, arith, ∥∥₁_elim, ∥∥₁_map, append-nil, map-append, reverse-append, mod_below, ObjectId, Refusal, In, without_object, Once, at_number_same, in_append, in_left, object_tells, LiveEvent, ChainNote, Close, Object, Cut, Queue, Replace, Retire, Falls, Log, Begins, Has, HaveEnded, IsLiveRun, chain_note, record_of, state_of, HasKey, IsDirectory, IsFree, IsNamed, reserved, tabled, begins_trans, chain_used, falls_cut, has_later, is_noted, kept_log, left_is_freed, linked_between, note_stays, run_of, tabled_maps, hold_at, Look, Stored, Sizes, View, AreAsKnown, IsListed, IsWriter, own_in, Queues, MakesMany, OnlyMakesLast, Stays, more_made, none_made, Ghosts, RefusesRetirement, MayPublish, list_in, KnowsKeys, directed_map, LeavesMap, Writes, bucket_of, FindsMore, AreFreed, Cuts, Clears, Does, Follow, HasWaited, IsLeft, IsRefused, Kind, Retires, Uses, WasReplaced, callbacks_by, callbacks_in, cleared_by, cleared_in, changes_in, objects_in, Each, HasKeysIn, HasNote, IsAlone, IsOutside, Naming, HasRight, LinksStill, length_of}
 use Rattle.rcu_hash.proofs.Directing.{map_same}
-use Rattle.rcu_hash.proofs.Holds.{each_last}
+use Rattle.rcu_hash.proofs.Holds.{each_last, note_listed}
 use Rattle.rcu_hash.proofs.Named.{directed_between, lent_used, unnamed, words_later}
-use Rattle.rcu_hash.proofs.Copies.{in_behind}
+use Rattle.rcu_hash.proofs.Copies.{in_behind, next_taken}
 
 ended_later : (before known log : Log) → Begins known log → HaveEnded before known → HaveEnded before log
 ended_later before known log b ended r n m opened = subst (Has (Close r n)) (sym b.1) (has_later (Close r n) b.0 known (ended r n m opened))
@@ -15,22 +15,11 @@ waited_later d o log later b w = record { known = w.known; mark = w.mark; after 
 -- a list without its first object is one shorter
 without_absent : (xs : List ObjectId) (o : ObjectId) → ¬ In xs o → without_object o xs ≡ xs
 without_absent [] o none = refl
-without_absent (x ∷ xs) o none = by (without_absent xs o (λ h. none (inr h))) (object_tells x o)
-  where
-    by : without_object o xs ≡ xs → Tells (same_object x o) x o → without_object o (x ∷ xs) ≡ x ∷ xs
-    by same (inl y) = absurd (none (inl y.1))
-    by same (inr n) = rw n.0 (ap (λ (l : List ObjectId). x ∷ l) same)
+without_absent (x ∷ xs) o none = let rest = without_absent xs o (λ h. none (inr h)) in let tells = object_tells x o in grind arith
 
 pub one_fewer : (xs : List ObjectId) (o : ObjectId) → Once xs → slice_get xs 0 ≡ Some o → length xs ≡ length (without_object o xs) + 1
-one_fewer [] o once at = absurd (none_some o at)
-one_fewer (x ∷ xs) o once at = by (object_tells x o)
-  where
-    is : x ≡ o
-    is = some_is x o at
-
-    by : Tells (same_object x o) x o → length (x ∷ xs) ≡ length (without_object o (x ∷ xs)) + 1
-    by (inl y) = rw y.0 (let same = ap length (without_absent xs o (λ h. once.0 (subst (In xs) (sym is) h))) in omega arith)
-    by (inr n) = absurd (n.1 is)
+one_fewer [] o once at = grind arith
+one_fewer (x ∷ xs) o once at = let same = without_absent xs o in let tells = object_tells x o in grind arith
 
 -- what was replaced in an earlier log was in a later one
 pub replaced_later : (d : ℕ) (o : ObjectId) (log later : Log) → Begins log later → WasReplaced d o log → WasReplaced d o later
@@ -106,8 +95,7 @@ module _ (qsbr : Bool) where
 
       pub may_cut_left : KnowsKeys v → (p : ObjectId) → In (list_in v) p → MayPublish qsbr tabled v seen heard [] (Object (Cut c p))
       may_cut_left keys p at log on run known made =
-          let then = run_of qsbr tabled v.seen log on.after_writer.0 run in
-          let note = note_stays qsbr tabled v.seen log p on.after_writer.0 run (chain_used qsbr tabled v.seen c p then (subst (λ (l : List ObjectId). In l p) (sym listed.0) at)) in (
+          let note = note_listed qsbr v log p listed on.after_writer.0 run at in (
             free log on.after_caller.1 run known,
             subst HasKey (sym note) (keys p at),
             subst (Falls (record_of log)) (sym (at_number_same c (without_object p ((state_of log).chain c)) (state_of log).chain)) (falls_cut (record_of log) ((state_of log).chain c) p ((tabled_maps qsbr).falls log c run)),
@@ -221,43 +209,9 @@ module _ (qsbr : Bool) (allows : Log → LiveEvent → Type 0) (sizes : Sizes) (
       freed = freed_both x.steps y.steps x.found y.found x.freed y.freed;
     }
 
-    -- one callback for one step
-    pub uses_one : (a b : W) (jobs left : List D) (job : D) (heard log : Log) (k : Kind) → callbacks_by k ≡ code job ∷ [] → cleared_by k ≡ [] → MakesMany w a b (change_by k) → ((found : List Look) × (w.looks b ≡ found ++ w.looks a)) → jobs ≡ left ++ job ∷ [] → Does qsbr allows sizes d seen heard k log → Uses qsbr allows sizes d seen w code a b jobs left heard log
-    uses_one a b jobs left job heard log k one none made more are does = let alone : change_by k ≡ change_by k + 0 = omega arith in record {
-      used = job ∷ [];
-      are = are;
-      steps = (k, log) ∷ [];
-      follow = (does, ([], refl));
-      callbacks = append-nil (callbacks_by k) ∙ one;
-      made = subst (MakesMany w a b) alone made;
-      found = more.0;
-      looks = more.1;
-      freed = λ c h. absurd (subst (λ (cs : List ℕ). In (cs ++ []) c) none h);
-    }
-
-    -- and a note for none
-    pub uses_no : (a b : W) (jobs : List D) (heard at log : Log) (chain : ℕ) → MakesMany w a b 1 → w.looks b ≡ Stored (hold_at sizes chain) 0 ∷ w.looks a → ClearsNote qsbr allows sizes d seen heard chain at → Begins at log → Uses qsbr allows sizes d seen w code a b jobs jobs heard log
-    uses_no a b jobs heard at log chain made looked does before = record {
-      used = [];
-      are = sym (append-nil jobs);
-      steps = (Clears chain, at) ∷ [];
-      follow = (does, before);
-      callbacks = refl;
-      made = made;
-      found = Stored (hold_at sizes chain) 0 ∷ [];
-      looks = looked;
-      freed = λ c h. ⊎_elim (λ is. inl (ap (λ (n : ℕ). Stored (hold_at sizes n) 0) is)) (λ none. absurd none) h;
-    }
-
--- what is so of an option where there is one
-pub some_on : {A : Type 0} (r : Option A) (P Q : A → Type 0) → ((x : A) → P x → Q x) → IfSome r P → IfSome r Q
-some_on None P Q f p = tt
-some_on (Some x) P Q f p = f x p
-
--- what is so of a result in one case
-pub err_on : {A E : Type 0} (r : Result A E) (P Q : E → Type 0) → ((e : E) → P e → Q e) → IfErr r P → IfErr r Q
-err_on (Ok x) P Q f p = tt
-err_on (Err e) P Q f p = f e p
+    -- one step
+    pub uses_step : (a b : W) (jobs left used : List D) (heard at log : Log) (k : Kind) (found : List Look) → jobs ≡ left ++ used → callbacks_in ((k, at) ∷ []) ≡ map code (reverse used) → MakesMany w a b (changes_in ((k, at) ∷ [])) → w.looks b ≡ found ++ w.looks a → AreFreed sizes (cleared_in ((k, at) ∷ [])) found → Does qsbr allows sizes d seen heard k at → Begins at log → Uses qsbr allows sizes d seen w code a b jobs left heard log
+    uses_step a b jobs left used heard at log k found are callbacks made looks freed does before = record { used = used; are = are; steps = (k, at) ∷ []; follow = (does, before); callbacks = callbacks; made = made; found = found; looks = looks; freed = freed }
 
 -- how many objects more chains have
 pub objects_both : (vs ws : List View) → objects_in (vs ++ ws) ≡ objects_in vs + objects_in ws
@@ -283,7 +237,7 @@ pub each_pushed : {X : Type 0} (xs all : List X) (x : X) (f : X → View) (P : V
 each_pushed xs all x f P is so one = subst (λ vs. Each P vs) (sym (ap (map f) is ∙ map-append f xs (x ∷ []))) (each_last P (map f xs) (f x) so one)
 
 pub objects_pushed : {X : Type 0} (xs all : List X) (x : X) (f : X → View) → all ≡ xs ++ x ∷ [] → 0 < length (list_in (f x)) → 0 < objects_in (map f all)
-objects_pushed xs all x f is some = let sum = ap objects_in (ap (map f) is ∙ map-append f xs (x ∷ [])) ∙ objects_both (map f xs) (f x ∷ []) in omega (arith, sum, some)
+objects_pushed xs all x f is some = let sum = objects_both (map f xs) (f x ∷ []) in grind (arith, map-append)
 
 -- chains that have objects are some
 pub objects_some : {X : Type 0} (xs : List X) (f : X → View) → 0 < objects_in (map f xs) → 0 < length xs
@@ -291,10 +245,5 @@ objects_some [] f some = some
 objects_some (x ∷ xs) f some = omega arith
 
 -- how many the first ones have, with one more
-pub objects_taken : {X : Type 0} (xs : List X) (i : ℕ) (x : X) (f : X → View) → slice_get xs i ≡ Some x → objects_in (map f (take (suc i) xs)) ≡ objects_in (map f (take i xs)) + length (list_in (f x))
-objects_taken [] i x f is = absurd (none_some x is)
-objects_taken (y ∷ ys) zero x f is = let same = ap (λ z. length (list_in (f z))) (some_is y x is) in omega (arith, same)
-objects_taken (y ∷ ys) (suc i) x f is = let rest = objects_taken ys i x f is in omega (arith, rest)
-
 pub objects_next : {X : Type 0} (xs : List X) (i : ℕ) (x : X) (f : X → View) → slice_get xs i ≡ Some x → objects_in (map f (take (i + 1) xs)) ≡ objects_in (map f (take i xs)) + length (list_in (f x))
-objects_next xs i x f is = let next : i + 1 ≡ suc i = omega arith in ap (λ (n : ℕ). objects_in (map f (take n xs))) next ∙ objects_taken xs i x f is
+objects_next xs i x f is = let all = next_taken xs i x is in let sum = objects_both (map f (take i xs)) (f x ∷ []) in grind (arith, map-append)

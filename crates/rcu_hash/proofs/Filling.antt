@@ -1,9 +1,9 @@
 -- The events of a growth before its last one: pushes into the new chains, and notes. None of them changes the table's
 -- map, since the same directory was linked from before them until after them.
-use Rattle.rcu_hash.proofs.Cited.Words.{Bool, ◌≡◌, ◌⊎◌, ℕ, ◌+◌, ◌<◌, ◌≤◌, List, [], ◌∷◌, ◌++◌, Some, length, slice_get, refl, sym, ap, ◌∙◌, subst, inl, inr, ⊎_elim, arith, zero, suc, mod_below, ObjectId, at_number_other, none_some, some_is, LiveEvent, ChainNote, Object, Push, Log, Begins, IsLiveRun, record_of, state_of, tabled, begins_trans, View, own_in, map_of, words_of, CopiesAll, CopiesKey, NotesAll, LeavesMap, Writes, words_by, bucket_of, AreFrom, append-nil, Publishes, list_in, OnlyMakesMany, OnlyMakesLast, Ghosts, more_only, one_only, none_only, Each, HasNote, IsAlone, IsRunIn, IsSame, Pairwise, map, In, HasKey, reserved, chain_used, note_stays, run_of, IsListed, value_in, value_same, buckets_in, first_in, Grows, HasKeysIn, IsOutside, value_at}
+use Rattle.rcu_hash.proofs.Cited.Words.{Bool, ◌≡◌, ◌⊎◌, ℕ, ◌+◌, ◌<◌, ◌≤◌, List, [], ◌∷◌, ◌++◌, Some, length, slice_get, refl, sym, ap, ◌∙◌, subst, inl, inr, ⊎_elim, arith, zero, suc, mod_below, ObjectId, at_number_other, none_some, some_is, LiveEvent, ChainNote, Object, Push, Log, Begins, IsLiveRun, record_of, state_of, tabled, begins_trans, View, own_in, map_of, words_of, CopiesAll, CopiesKey, NotesAll, LeavesMap, Writes, words_by, bucket_of, AreFrom, append-nil, Publishes, list_in, OnlyMakesMany, OnlyMakesLast, Ghosts, more_only, one_only, none_only, Each, HasNote, IsAlone, map, reserved, IsListed, buckets_in, first_in, Grows, IsOutside, KeepLists, append_assoc}
 use Rattle.rcu_hash.proofs.Directing.{map_same}
 use Rattle.rcu_hash.proofs.Emptying.{writes_weaker, leaves_weaker}
-use Rattle.rcu_hash.proofs.Holds.{each_last, pair_from, pair_same, pair_step}
+use Rattle.rcu_hash.proofs.Holds.{each_last, lists_both, lists_same, lists_step, note_listed}
 use Rattle.rcu_hash.proofs.Named.{directed_between}
 
 -- which chain a writer has, by its place
@@ -102,26 +102,24 @@ module _ (qsbr : Bool) (seen : Log) (chains from buckets : ℕ) (some : 0 < buck
 module _ {W S : Type 0} (w : Ghosts W S) (qsbr : Bool) (note : ℕ) (old : W) (all : List View) where
   -- so many have it, of which the caller heard, and the others follow
   pub record AreNoted (new : W) (many : ℕ) (done rest : List View) : Type 0 where
-    pub same : Pairwise IsSame all (done ++ rest)
+    pub lists : KeepLists all (done ++ rest)
     pub noted : Each (HasNote note) done
     pub alone : Each IsAlone done
-    pub runs : Each (IsRunIn qsbr) done
     pub notes : (first : ℕ) → AreFrom first all → NotesAll (Writes qsbr tabled (w.seen old)) note first many (w.heard old) (w.heard new)
     pub heard : Begins (w.heard old) (w.heard new)
     pub told : OnlyMakesMany w old new many
 
   pub none_noted : AreNoted old 0 [] all
-  none_noted = record { same = pair_same all; noted = tt; alone = tt; runs = tt; notes = λ first from. ([], refl); heard = ([], refl); told = none_only w old old (((refl, refl, (λ h. h), refl), refl), refl) }
+  none_noted = record { lists = lists_same all; noted = tt; alone = tt; notes = λ first from. ([], refl); heard = ([], refl); told = none_only w old old (((refl, refl, (λ h. h), refl), refl), refl) }
 
-  pub one_noted : (mid new : W) (many : ℕ) (done rest : List View) (v u : View) (n k : ℕ) (owner : Log) → AreNoted mid many done (v ∷ rest) → length done ≡ many → (own_in v.chains).chain ≡ n → k ≡ note → Publishes qsbr tabled v (w.seen mid) (w.heard mid) owner (ChainNote n k) u.seen → ((own_in u.chains).chain ≡ (own_in v.chains).chain) × (list_in u ≡ list_in v) → HasNote note u → IsAlone u → w.heard new ≡ u.seen → OnlyMakesLast w mid new u.seen → AreNoted new (many + 1) (done ++ u ∷ []) rest
-  one_noted mid new many done rest v u n k owner was size its is p like noted alone heard same =
+  pub one_noted : (mid new : W) (many : ℕ) (done rest : List View) (v u : View) (n k : ℕ) (owner : Log) → AreNoted mid many done (v ∷ rest) → length done ≡ many → (own_in v.chains).chain ≡ n → k ≡ note → IsListed v → Publishes qsbr tabled v (w.seen mid) (w.heard mid) owner (ChainNote n k) u.seen → ((own_in u.chains).chain ≡ (own_in v.chains).chain) × (list_in u ≡ list_in v) → HasNote note u → IsAlone u → w.heard new ≡ u.seen → OnlyMakesLast w mid new u.seen → AreNoted new (many + 1) (done ++ u ∷ []) rest
+  one_noted mid new many done rest v u n k owner was size its is listed p like noted alone heard same =
       let goes : Begins p.before u.seen = (ChainNote n k ∷ [], p.wrote) in let since : Begins (w.heard mid) p.before = p.after.after_caller.1 in record {
-        same = pair_step all done rest v u was.same (like.0, like.1, begins_trans v.seen p.before u.seen p.after.after_writer.0 goes);
+        lists = subst (KeepLists all) (sym (append_assoc done (u ∷ []) rest)) (lists_both all (done ++ v ∷ rest) (done ++ u ∷ rest) was.lists (lists_step done rest v u like.0 like.1 (λ o has. note_listed qsbr v u.seen o listed (begins_trans v.seen p.before u.seen p.after.after_writer.0 goes) p.run has)));
         noted = each_last (HasNote note) done u was.noted noted;
         alone = each_last IsAlone done u was.alone alone;
-        runs = each_last (IsRunIn qsbr) done u was.runs p.run;
         notes = λ first from.
-            let number : n ≡ first + many = sym its ∙ (from_behind first done rest v (pair_from first all (done ++ v ∷ rest) was.same from) ∙ ap (λ (j : ℕ). first + j) size) in
+            let number : n ≡ first + many = sym its ∙ (from_behind first done rest v (was.lists.from first from) ∙ ap (λ (j : ℕ). first + j) size) in
             let next : suc many ≡ many + 1 = omega arith in
             subst (λ (j : ℕ). NotesAll (Writes qsbr tabled (w.seen old)) note first j (w.heard old) (w.heard new)) next
             (subst (NotesAll (Writes qsbr tabled (w.seen old)) note first (suc many) (w.heard old)) (sym heard)
@@ -135,38 +133,14 @@ module _ {W S : Type 0} (w : Ghosts W S) (qsbr : Bool) (note : ℕ) (old : W) (a
         told = more_only w old mid new many 1 was.told (one_only w mid new u.seen same);
       }
 
-  pub all_noted : (new : W) (many : ℕ) (done rest : List View) → AreNoted new many done rest → rest ≡ [] → Pairwise IsSame all done
-  all_noted new many done rest n none = subst (Pairwise IsSame all) (ap (λ (l : List View). done ++ l) none ∙ append-nil done) n.same
+  pub all_noted : (new : W) (many : ℕ) (done rest : List View) → AreNoted new many done rest → rest ≡ [] → KeepLists all done
+  all_noted new many done rest n none = subst (KeepLists all) (ap (λ (l : List View). done ++ l) none ∙ append-nil done) n.lists
 
 -- writers whose chains have the same numbers
 pub numbers_from : {X : Type 0} (xs ys : List X) (first : ℕ) (number : X → ℕ) (view : X → View) → ((x : X) → (own_in (view x).chains).chain ≡ number x) → map number ys ≡ map number xs → AreFrom first (map view xs) → AreFrom first (map view ys)
-numbers_from [] [] first number view is same from = tt
+numbers_from xs [] first number view is same from = tt
 numbers_from [] (y ∷ ys) first number view is same from = cc
-numbers_from (x ∷ xs) [] first number view is same from = cc
-numbers_from (x ∷ xs) (y ∷ ys) first number view is same from =
-    let head : number y ≡ number x = cc in let tail : map number ys ≡ map number xs = cc in
-    (is y ∙ (head ∙ (sym (is x) ∙ from.0)), numbers_from xs ys (first + 1) number view is tail from.1)
-
-module _ (qsbr : Bool) where
-  -- the objects of a chain have the notes that they had, where its writer has gone on
-  note_same : (v w : View) (o : ObjectId) → IsSame v w → IsListed v → IsLiveRun qsbr tabled w.seen → In (list_in v) o → record_of w.seen o ≡ record_of v.seen o
-  note_same v w o same listed run has = note_stays qsbr tabled v.seen w.seen o same.2 run
-      (chain_used qsbr tabled v.seen (own_in v.chains).chain o (run_of qsbr tabled v.seen w.seen same.2 run) (subst (λ (l : List ObjectId). In l o) (sym listed.0) has))
-
-  pub pair_keys : (vs ws : List View) → Pairwise IsSame vs ws → Each IsListed vs → Each (IsRunIn qsbr) ws → Each HasKeysIn vs → Each HasKeysIn ws
-  pair_keys [] [] p listed runs keys = tt
-  pair_keys [] (w ∷ ws) p listed runs keys = absurd p
-  pair_keys (v ∷ vs) [] p listed runs keys = absurd p
-  pair_keys (v ∷ vs) (w ∷ ws) p listed runs keys =
-      (λ o has. let was = subst (λ (l : List ObjectId). In l o) p.0.1 has in subst HasKey (sym (note_same v w o p.0 listed.0 runs.0 was)) (keys.0 o was), pair_keys vs ws p.1 listed.1 runs.1 keys.1)
-
-  pub pair_values : (vs ws : List View) (k key : ℕ) → Pairwise IsSame vs ws → Each IsListed vs → Each (IsRunIn qsbr) ws → value_at (slice_get ws k) key ≡ value_at (slice_get vs k) key
-  pair_values [] [] k key p listed runs = refl
-  pair_values [] (w ∷ ws) k key p listed runs = absurd p
-  pair_values (v ∷ vs) [] k key p listed runs = absurd p
-  pair_values (v ∷ vs) (w ∷ ws) zero key p listed runs =
-      ap (λ (os : List ObjectId). value_in (record_of w.seen) os key) p.0.1 ∙ value_same (record_of v.seen) (record_of w.seen) (list_in v) key (λ o has. note_same v w o p.0 listed.0 runs.0 has)
-  pair_values (v ∷ vs) (w ∷ ws) (suc k) key p listed runs = pair_values vs ws k key p.1 listed.1 runs.1
+numbers_from (x ∷ xs) (y ∷ ys) first number view is same from = let rest = numbers_from xs ys (first + 1) number view is in let one = is x in let two = is y in grind arith
 
 module _ (qsbr : Bool) (allows : Log → LiveEvent → Type 0) (chains d : ℕ) (first buckets : ℕ) (entries : List (ℕ × ℕ)) (log : Log) where
   pub grows_since : (seen heard seen' heard' : Log) (n : ℕ) → seen' ≡ seen → Begins heard heard' → (g : Grows qsbr allows chains d seen' heard' first buckets entries log) → buckets_in (record_of g.left g.old) ≡ n → (k : Grows qsbr allows chains d seen heard first buckets entries log) × (buckets_in (record_of k.left k.old) ≡ n)

@@ -1,5 +1,5 @@
 -- Writers of chains that follow one another, by their rights; and the directory for which their chains are reserved.
-use Rattle.rcu_hash.proofs.Cited.Words.{drop-append-le, drop_all, take-append-le, take_all, Bool, ◌≡◌, ◌⊎◌, ℕ, ◌+◌, ◌^◌, ◌<◌, ◌≤◌, List, [], ◌∷◌, ◌++◌, length, map, take, drop, refl, sym, ap, ◌∙◌, subst, append_assoc, inr, ⊎_elim, arith, suc, dite, ℕ_discrete, ObjectId, Look, In, Log, IsLiveRun, chain_note, state_of, IsDirectory, IsFree, MayDirect, Names, reserved, tabled, begins_trans, unnoted_free, ChainRight, View, AreAsKnown, cell_in, object_in, own_in, payload_in, MayPublish, push_by, words_by, AreFrom, Each, HasKeysIn, HasNote, HasNothing, IsSame, Pairwise, lengths_of, rights_of, length-map, append-nil, map-append, Begins, lent_chains, SawBefore, length_of}
+use Rattle.rcu_hash.proofs.Cited.Words.{drop-append-le, drop_all, take-append-le, take_all, Bool, ◌≡◌, ◌⊎◌, ℕ, ◌+◌, ◌^◌, ◌<◌, ◌≤◌, List, [], ◌∷◌, ◌++◌, length, map, take, drop, refl, sym, ap, ◌∙◌, subst, append_assoc, inr, ⊎_elim, arith, suc, dite, ℕ_discrete, ObjectId, Look, In, Log, IsLiveRun, chain_note, state_of, IsDirectory, IsFree, MayDirect, Names, reserved, tabled, begins_trans, unnoted_free, ChainRight, View, AreAsKnown, cell_in, object_in, own_in, payload_in, MayPublish, push_by, words_by, AreFrom, Each, HasKeysIn, HasNote, HasNothing, lengths_of, rights_of, length-map, append-nil, map-append, Begins, lent_chains, SawBefore, length_of, chain_used, note_stays, run_of, record_of, HasKey, value_at, KeepLists, value_same, value_in, IsListed, list_in, zero, slice_get, common_steps}
 
 -- what was looked at, and then more
 pub looks_both : (old middle new : List Look) (one two : List Look) → middle ≡ one ++ old → new ≡ two ++ middle → new ≡ (two ++ one) ++ old
@@ -27,44 +27,21 @@ pub lengths_many : (xs : List ChainRight) → length (lengths_of xs) ≡ length 
 lengths_many [] = refl
 lengths_many (x ∷ xs) = ap suc (lengths_many xs)
 
--- of one list and another behind it the first one
-pub take_first : {X : Type 0} (n : ℕ) (xs ys : List X) → n ≡ length xs → take n (xs ++ ys) ≡ xs
-take_first n xs ys is = take-append-le n xs ys (omega arith) ∙ take_all n xs (omega arith)
+-- of rights that were lent with others before them all, those of these lents are the first
+abbrev pub AreTheirs : {A : Type 0} (lents : List A) (of : A → ℕ × ℕ) (rights others all : List ChainRight) → Type 0
+AreTheirs lents of rights others all = (map of lents ≡ lengths_of (take (length lents) all)) × (take (length lents) all ≡ rights) × (drop (length lents) all ≡ others)
 
-pub drop_first : {X : Type 0} (n : ℕ) (xs ys : List X) → n ≡ length xs → drop n (xs ++ ys) ≡ ys
-drop_first n xs ys is = drop-append-le n xs ys (omega arith) ∙ ap (λ zs. zs ++ ys) (drop_all n xs (omega arith))
+pub all_theirs : {A : Type 0} (lents : List A) (of : A → ℕ × ℕ) (rights others all : List ChainRight) → all ≡ rights ++ others → map of lents ≡ lengths_of rights → AreTheirs lents of rights others all
+all_theirs lents of rights others all are is =
+    let n = length lents in let many : n ≡ length rights = sym (length-map lents of) ∙ (ap length is ∙ lengths_many rights) in
+    let first : take n all ≡ rights = ap (take n) are ∙ (take-append-le n rights others (omega arith) ∙ take_all n rights (omega arith)) in
+    (is ∙ ap lengths_of (sym first), first, ap (drop n) are ∙ (drop-append-le n rights others (omega arith) ∙ ap (λ zs. zs ++ others) (drop_all n rights (omega arith))))
 
--- as many as lent them
-pub lents_many : {A : Type 0} (lents : List A) (of : A → ℕ × ℕ) (rights : List ChainRight) → map of lents ≡ lengths_of rights → length lents ≡ length rights
-lents_many lents of rights is = sym (length-map lents of) ∙ (ap length is ∙ lengths_many rights)
-
--- a right without the writer
-abbrev pub RightsFrom : ℕ → List ChainRight → Type 0
-RightsFrom first [] = Unit {0}
-RightsFrom first (x ∷ xs) = (x.chain ≡ first) × RightsFrom (first + 1) xs
-
-to_rights : (first : ℕ) (vs : List View) → AreFrom first vs → RightsFrom first (rights_of vs)
-to_rights first [] from = tt
-to_rights first (v ∷ vs) from = (from.0, to_rights (first + 1) vs from.1)
-
-of_rights : (first : ℕ) (vs : List View) → RightsFrom first (rights_of vs) → AreFrom first vs
-of_rights first [] from = tt
-of_rights first (v ∷ vs) from = (from.0, of_rights (first + 1) vs from.1)
-
+-- writers with the same rights follow one another alike
 pub from_rights : (first : ℕ) (vs ws : List View) → rights_of ws ≡ rights_of vs → AreFrom first vs → AreFrom first ws
-from_rights first vs ws same from = of_rights first ws (subst (RightsFrom first) (sym same) (to_rights first vs from))
-
--- what is so of each right
-each_to : (P : ChainRight → Type 0) (vs : List View) → Each (λ v. P (own_in v.chains)) vs → Each P (rights_of vs)
-each_to P [] all = tt
-each_to P (v ∷ vs) all = (all.0, each_to P vs all.1)
-
-each_of : (P : ChainRight → Type 0) (vs : List View) → Each P (rights_of vs) → Each (λ v. P (own_in v.chains)) vs
-each_of P [] all = tt
-each_of P (v ∷ vs) all = (all.0, each_of P vs all.1)
-
-pub each_rights : (P : ChainRight → Type 0) (vs ws : List View) → rights_of ws ≡ rights_of vs → Each (λ v. P (own_in v.chains)) vs → Each (λ v. P (own_in v.chains)) ws
-each_rights P vs ws same all = each_of P ws (subst (λ (xs : List ChainRight). Each P xs) (sym same) (each_to P vs all))
+from_rights first vs [] same from = tt
+from_rights first [] (w ∷ ws) same from = cc
+from_rights first (v ∷ vs) (w ∷ ws) same from = (ap (λ (x : ChainRight). x.chain) (ap own_in same) ∙ from.0, from_rights (first + 1) vs ws (ap lent_chains same) from.1)
 
 -- in a log in which chains are as their writers know them
 module _ (log : Log) where
@@ -84,31 +61,38 @@ module _ (log : Log) where
 pub nothing_has_keys : (v : View) → HasNothing v → HasKeysIn v
 nothing_has_keys v none o h = absurd (subst (λ (l : List ObjectId). In l o) none h)
 
--- pairs of writers, of which the second one has gone on
-pub pair_same : (vs : List View) → Pairwise IsSame vs vs
-pair_same [] = tt
-pair_same (v ∷ vs) = ((refl, refl, ([], refl)), pair_same vs)
+-- the objects of a chain have the notes that its writer knows
+pub note_listed : (qsbr : Bool) (v : View) (log : Log) (o : ObjectId) → IsListed v → Begins v.seen log → IsLiveRun qsbr tabled log → In (list_in v) o → record_of log o ≡ record_of v.seen o
+note_listed qsbr v log o listed b run has = note_stays qsbr tabled v.seen log o b run
+    (chain_used qsbr tabled v.seen (own_in v.chains).chain o (run_of qsbr tabled v.seen log b run) (subst (λ (l : List ObjectId). In l o) (sym listed.0) has))
 
-same_trans : (u v w : View) → IsSame u v → IsSame v w → IsSame u w
-same_trans u v w a b = (b.0 ∙ a.0, b.1 ∙ a.1, begins_trans u.seen v.seen w.seen a.2 b.2)
+-- writers keep their lists, where nothing was done with them, where one thing was done after another, where one more does
+pub lists_same : (vs : List View) → KeepLists vs vs
+lists_same vs = record { from = λ first from. from; keys = λ keys. keys; nothing = λ none. none; values = λ k key. refl }
 
-pub pair_step : (us done rest : List View) (v w : View) → Pairwise IsSame us (done ++ v ∷ rest) → IsSame v w → Pairwise IsSame us ((done ++ w ∷ []) ++ rest)
-pair_step [] [] rest v w p s = absurd p
-pair_step [] (d ∷ done) rest v w p s = absurd p
-pair_step (u ∷ us) [] rest v w p s = (same_trans u v w p.0 s, p.1)
-pair_step (u ∷ us) (d ∷ done) rest v w p s = (p.0, pair_step us done rest v w p.1 s)
+pub lists_both : (us vs ws : List View) → KeepLists us vs → KeepLists vs ws → KeepLists us ws
+lists_both us vs ws a b = record {
+  from = λ first from. b.from first (a.from first from);
+  keys = λ keys. b.keys (a.keys keys);
+  nothing = λ none. b.nothing (a.nothing none);
+  values = λ k key. b.values k key ∙ a.values k key;
+}
 
-pub pair_from : (first : ℕ) (vs ws : List View) → Pairwise IsSame vs ws → AreFrom first vs → AreFrom first ws
-pair_from first [] [] p from = tt
-pair_from first [] (w ∷ ws) p from = absurd p
-pair_from first (v ∷ vs) [] p from = absurd p
-pair_from first (v ∷ vs) (w ∷ ws) p from = (p.0.0 ∙ from.0, pair_from (first + 1) vs ws p.1 from.1)
+pub lists_cons : (v w : View) (vs ws : List View) → (own_in w.chains).chain ≡ (own_in v.chains).chain → list_in w ≡ list_in v → ((o : ObjectId) → In (list_in v) o → record_of w.seen o ≡ record_of v.seen o) → KeepLists vs ws → KeepLists (v ∷ vs) (w ∷ ws)
+lists_cons v w vs ws chain list notes rest = record {
+  from = λ first from. (chain ∙ from.0, rest.from (first + 1) from.1);
+  keys = λ keys. (λ o has. let was = subst (λ (l : List ObjectId). In l o) list has in subst HasKey (sym (notes o was)) (keys.0 o was), rest.keys keys.1);
+  nothing = λ none. (list ∙ none.0, rest.nothing none.1);
+  values = at;
+}
+  where
+    at : (k key : ℕ) → value_at (slice_get (w ∷ ws) k) key ≡ value_at (slice_get (v ∷ vs) k) key
+    at zero key = ap (λ (os : List ObjectId). value_in (record_of w.seen) os key) list ∙ value_same (record_of v.seen) (record_of w.seen) (list_in v) key notes
+    at (suc k) key = rest.values k key
 
-pub pair_nothing : (vs ws : List View) → Pairwise IsSame vs ws → Each HasNothing vs → Each HasNothing ws
-pair_nothing [] [] p all = tt
-pair_nothing [] (w ∷ ws) p all = absurd p
-pair_nothing (v ∷ vs) [] p all = absurd p
-pair_nothing (v ∷ vs) (w ∷ ws) p all = (p.0.1 ∙ all.0, pair_nothing vs ws p.1 all.1)
+pub lists_step : (done rest : List View) (v w : View) → (own_in w.chains).chain ≡ (own_in v.chains).chain → list_in w ≡ list_in v → ((o : ObjectId) → In (list_in v) o → record_of w.seen o ≡ record_of v.seen o) → KeepLists (done ++ v ∷ rest) (done ++ w ∷ rest)
+lists_step [] rest v w chain list notes = lists_cons v w rest rest chain list notes (lists_same rest)
+lists_step (d ∷ done) rest v w chain list notes = lists_cons d d (done ++ v ∷ rest) (done ++ w ∷ rest) refl refl (λ o has. refl) (lists_step done rest v w chain list notes)
 
 -- of a list that begins with one, what is so of each
 pub each_head : {X : Type 0} (P : View → Type 0) (f : X → View) (xs ys : List X) (x : X) → xs ≡ x ∷ ys → Each P (map f xs) → P (f x) × Each P (map f ys)
@@ -154,7 +138,7 @@ paired p q first second = let pair : ℕ → ℕ → ℕ × ℕ = λ m n. (m, n)
 
 split_rights : (rights : List ChainRight) (one : ℕ × ℕ) (more : List (ℕ × ℕ)) (n : ℕ) → one ∷ more ≡ lengths_of (take (suc n) rights) →
     (rights ≡ own_in rights ∷ lent_chains rights) × (one ≡ length_of (own_in rights)) × (more ≡ lengths_of (take n (lent_chains rights)))
-split_rights [] one more n same = absurd (cc)
+split_rights [] one more n same = grind arith
 split_rights (x ∷ xs) one more n same = (refl, cc, cc)
 
 module _ {A : Type 0} where
@@ -166,20 +150,11 @@ module _ {A : Type 0} where
   pub lent_one : {B : Type 0} (left rest : List A) (x : A) (lents : List B) (lent : B) (all : List (ℕ × ℕ)) (view : A → View) (of : B → ℕ × ℕ) →
       left ≡ x ∷ rest → of lent ≡ length_of (own_in (view x).chains) → map of lents ++ lengths_of (rights_of (map view left)) ≡ all →
       map of (lents ++ lent ∷ []) ++ lengths_of (rights_of (map view rest)) ≡ all
-  lent_one {B} left rest x lents lent all view of first is joined =
-      let others = lengths_of (rights_of (map view rest)) in
-      ap (λ (l : List (ℕ × ℕ)). l ++ others) (map-append of lents (lent ∷ []))
-      ∙ append_assoc (map of lents) (of lent ∷ []) others
-      ∙ ap (λ (p : ℕ × ℕ). map of lents ++ p ∷ others) is
-      ∙ ap (λ (l : List A). map of lents ++ lengths_of (rights_of (map view l))) (sym first) ∙ joined
+  lent_one left rest x lents lent all view of first is joined = grind (arith, common_steps, map-append)
 
   pub right_lent : (left rest : List A) (x : A) (before after all : List ChainRight) (view : A → View) →
       left ≡ x ∷ rest → after ≡ before ++ own_in (view x).chains ∷ [] → before ++ rights_of (map view left) ≡ all → after ++ rights_of (map view rest) ≡ all
-  right_lent left rest x before after all view first more joined =
-      let others = rights_of (map view rest) in
-      ap (λ (l : List ChainRight). l ++ others) more
-      ∙ append_assoc before (own_in (view x).chains ∷ []) others
-      ∙ ap (λ (l : List A). before ++ rights_of (map view l)) (sym first) ∙ joined
+  right_lent left rest x before after all view first more joined = grind (arith, common_steps)
 
   pub reaches_on : (left rest all : List A) (x : A) (before after : Log) (view : A → View) →
       left ≡ x ∷ rest → Begins before after → Begins (view x).seen after → Reaches before (map view left) (map view all) → Reaches after (map view rest) (map view all)
@@ -193,22 +168,13 @@ module _ {A : Type 0} where
   -- the first that was lent is the next that is taken back
   pub first_lent : (left rest : List A) (x : A) (rights : List ChainRight) (of : A → ℕ × ℕ) → left ≡ x ∷ rest → map of left ≡ lengths_of (take (length left) rights) →
       (rights ≡ own_in rights ∷ lent_chains rights) × (of x ≡ length_of (own_in rights)) × (map of rest ≡ lengths_of (take (length rest) (lent_chains rights)))
-  first_lent left rest x rights of first same = split_rights rights (of x) (map of rest) (length rest) (subst (λ (l : List A). map of l ≡ lengths_of (take (length l) rights)) first same)
-
-  pub taken_one : (left rest : List A) (x : A) (rights : List ChainRight) → left ≡ x ∷ rest → rights ≡ own_in rights ∷ lent_chains rights →
-      take (length left) rights ≡ own_in rights ∷ take (length rest) (lent_chains rights)
-  taken_one left rest x rights first split = ap (λ (l : List A). take (length l) rights) first ∙ ap (take (suc (length rest))) split
+  first_lent left rest x rights of first same = split_rights rights (of x) (map of rest) (length rest) (grind arith)
 
   pub dropped_one : (left rest : List A) (x : A) (rights : List ChainRight) → left ≡ x ∷ rest → rights ≡ own_in rights ∷ lent_chains rights →
       drop (length left) rights ≡ drop (length rest) (lent_chains rights)
-  dropped_one left rest x rights first split = ap (λ (l : List A). drop (length l) rights) first ∙ ap (drop (suc (length rest))) split
+  dropped_one left rest x rights first split = grind arith
 
   pub right_back : {B : Type 0} (left rest : List A) (x : A) (done : List B) (chain : B) (rights all : List ChainRight) (view : B → View) →
       left ≡ x ∷ rest → rights ≡ own_in rights ∷ lent_chains rights → (view chain).chains ≡ own_in rights ∷ [] → rights_of (map view done) ++ take (length left) rights ≡ all →
       rights_of (map view (done ++ chain ∷ [])) ++ take (length rest) (lent_chains rights) ≡ all
-  right_back {B} left rest x done chain rights all view first split its joined =
-      let others = take (length rest) (lent_chains rights) in let before = rights_of (map view done) in
-      ap (λ (l : List ChainRight). l ++ others) (rights_pushed done chain view)
-      ∙ append_assoc before (own_in (view chain).chains ∷ []) others
-      ∙ ap (λ (l : List ChainRight). before ++ own_in l ∷ others) its
-      ∙ ap (λ (l : List ChainRight). before ++ l) (sym (taken_one left rest x rights first split)) ∙ joined
+  right_back left rest x done chain rights all view first split its joined = let pushed = rights_pushed done chain view in grind (arith, common_steps)

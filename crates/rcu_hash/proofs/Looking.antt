@@ -1,22 +1,17 @@
 -- What a lookup that read a directory answers.
-use Rattle.rcu_hash.proofs.Cited.Words.{◌≡◌, ◌≢◌, ℕ, ◌+◌, ◌%◌, ◌<◌, ◌==◌, if◌then◌else◌, Bool, true, false, List, [], ◌∷◌, ◌++◌, Option, Some, None, refl, sym, ap, ◌∙◌, subst, inl, inr, ⊎_elim, arith, ne_eqb, FoldsTo, dite, ℕ_discrete, In, in_append, Log, Begins, AnswersBetween, times, ◌≤◌, ◌&&◌, cond, nat_lt, eq-eqb, lt_of_not-le, eqb-true, lt-ltb, ltb-true, mod_below, mod-eq_of_lt, dec_le, ObjectId, Close, Has, record_of, kind_of, tabled, begins_trans, ReaderCore, log_of, ordinal, FindsFirst, Looks, IsIn, looks_twice, map_of, AnswersThrough, WalksThrough, buckets_in, first_in, bucket_in, leads, leads_to, value_through, bucket_of}
-use Rattle.rcu_hash.proofs.Directing.{answers_for_table, both}
+use Rattle.rcu_hash.proofs.Cited.Words.{◌≡◌, ◌≢◌, ℕ, ◌+◌, ◌%◌, ◌<◌, Bool, true, false, List, [], ◌∷◌, ◌++◌, Option, Some, None, refl, sym, ap, ◌∙◌, subst, inl, inr, ⊎_elim, arith, FoldsTo, dite, ℕ_discrete, In, in_append, Log, Begins, AnswersBetween, times, ◌≤◌, cond, lt_of_not-le, mod-eq_of_lt, dec_le, ObjectId, Close, Has, record_of, kind_of, tabled, begins_trans, ReaderCore, log_of, ordinal, FindsFirst, Looks, IsIn, looks_twice, map_of, AnswersThrough, WalksThrough, buckets_in, first_in, bucket_in, leads, leads_to, value_through, bucket_of, nat_tests}
+use Rattle.rcu_hash.proofs.Directing.{answers_for_table}
 use Rattle.rcu_list.specs.Walks as list
 use Rattle.gp_memb.specs.declared.plan.GracePlan as plan
 
-if_sum : (b : Bool) (m n k : ℕ) → m ≡ n + k → (if b then m + 1 else m) ≡ (if b then n + 1 else n) + k
-if_sum true m n k e = omega arith
-if_sum false m n k e = e
-
 times_sum : (key : ℕ) (xs ys : List (ℕ × ℕ)) → times key (xs ++ ys) ≡ times key xs + times key ys
 times_sum key [] ys = omega arith
-times_sum key (e ∷ es) ys = if_sum (e.0 == key) (times key (es ++ ys)) (times key es) (times key ys) (times_sum key es ys)
+times_sum key (e ∷ es) ys = let rest = times_sum key es ys in grind (arith, nat_tests)
 
 times_none : (key : ℕ) (xs : List (ℕ × ℕ)) → ((value : ℕ) → ¬ In xs (key, value)) → times key xs ≡ 0
 times_none key [] none = refl
 times_none key ((k, v) ∷ es) none =
-    ap (λ (b : Bool). if b then times key es + 1 else times key es) (ne_eqb k key (λ e. none v (inl (ap (λ (n : ℕ). (n, v)) e))))
-    ∙ times_none key es (λ value h. none value (inr h))
+    let rest = times_none key es (λ value h. none value (inr h)) in let other : k ≢ key = λ e. none v (inl (ap (λ (n : ℕ). (n, v)) e)) in grind (arith, nat_tests)
 
 -- calls with one list and then with another
 pub folds_both : {F A : Type 0} (R : F → A → F → Type 0) (f g h : F) (xs ys : List A) → FoldsTo R f xs g → FoldsTo R g ys h → FoldsTo R f (xs ++ ys) h
@@ -57,33 +52,22 @@ module _ (buckets : ℕ) (had_in : Log → ℕ → Option ℕ → Type 0) where
           (λ other. let none = not_more key other in later mid new key None b (w.lacked key (omega arith) (λ one. n (omega arith))));
     }
 
--- a test that does not hold is false
-pub fails : (b : Bool) → (b ≡ true → ⊥) → b ≡ false
-fails true never = absurd (never refl)
-fails false never = refl
-
--- the words lead, or do not
+-- where the words lead
 module _ (chains kind first buckets : ℕ) where
-  pub leads_yes : (key : ℕ) → kind ≡ 1 → 0 < buckets → bucket_of first buckets key < chains → leads_to chains kind first buckets key ≡ true
-  leads_yes key is many low = (λ i. eq-eqb kind 1 is i && (lt-ltb 0 buckets many i && lt-ltb (bucket_of first buckets key) chains low i))
-
   pub led_all : (key : ℕ) → leads_to chains kind first buckets key ≡ true → (kind ≡ 1) × (0 < buckets) × (bucket_of first buckets key < chains)
-  led_all key led = let p = both (kind == 1) (nat_lt 0 buckets && nat_lt (bucket_of first buckets key) chains) led in let q = both (nat_lt 0 buckets) (nat_lt (bucket_of first buckets key) chains) p.1 in
-      (eqb-true kind 1 p.0, ltb-true 0 buckets q.0, ltb-true (bucket_of first buckets key) chains q.1)
+  led_all key led = grind (arith, nat_tests)
 
   -- the bucket of a number below theirs is that of each key with this remainder
   module _ (number : ℕ) (low : number < buckets) where
     pub same_bucket : (key : ℕ) → key % buckets ≡ number → bucket_of first buckets key ≡ bucket_of first buckets number
-    same_bucket key is = ap (λ (n : ℕ). first + n) (is ∙ sym (mod-eq_of_lt low))
+    same_bucket key is = let own = mod-eq_of_lt low in omega (arith, own, is)
 
     pub leads_same : (key : ℕ) → key % buckets ≡ number → leads_to chains kind first buckets number ≡ true → leads_to chains kind first buckets key ≡ true
-    leads_same key is led = ap (λ (c : ℕ). (kind == 1) && (nat_lt 0 buckets && nat_lt c chains)) (same_bucket key is) ∙ led
+    leads_same key is led = let own = mod-eq_of_lt low in grind (arith, nat_tests)
 
     -- no bucket of a number above has a chain where this one has none
     pub leads_no_more : leads_to chains kind first buckets number ≡ false → (key : ℕ) → number ≤ key % buckets → leads_to chains kind first buckets key ≡ false
-    leads_no_more none key above = fails (leads_to chains kind first buckets key) (λ led.
-        let y = led_all key led in let m : number % buckets ≡ number = mod-eq_of_lt low in
-        let yes = leads_yes number y.0 y.1 (let z = y.2 in omega arith) in cc)
+    leads_no_more none key above = let own = mod-eq_of_lt low in grind (arith, nat_tests)
 
 -- what was answered since a later log was answered since an earlier one
 module _ (seen heard start new : Log) (chains d : ℕ) where
@@ -155,4 +139,4 @@ module _ {P K : Type 0} {g : plan.Ghosts P} (qsbr : Bool) (chains d : ℕ) (r : 
     walk_stops below none = ends_with (leads_no_more chains kind low many number below none)
 
     pub walk_ends : number ≡ many → WalksThrough (log_of r) (log_of r) new chains d met
-    walk_ends all = ends_with (λ key above. fails (leads_to chains kind low many key) (λ led. let m = mod_below key many (led_all chains kind low many key led).1 in absurd (omega arith)))
+    walk_ends all = ends_with (λ key above. grind (arith, nat_tests))

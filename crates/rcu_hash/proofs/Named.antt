@@ -1,14 +1,12 @@
 -- What the directory's right tells a bucket's writer that has it: its chain is free, and the table's map is that of its
 -- buckets.
-use Rattle.rcu_hash.proofs.Cited.Words.{Bool, ◌≡◌, ℕ, ◌+◌, ◌<◌, ◌≤◌, ◌&&◌, List, [], ◌∷◌, Option, None, Some, true, refl, sym, ap, ◌∙◌, subst, inl, arith, slice_index_or, lt-ltb, mod_below, ObjectId, In, first_of, Log, Begins, IsLiveRun, record_of, state_of, LiveEvent, IsDirectory, tabled, begins_trans, chain_used, directory_alone, grows_log, linked_between, note_stays, run_of, ChainRight, View, IsListed, own_in, list_in, map_of, LeadsTo, directed_map, leads, words_by, ChangesThrough, InsertsThrough, RemovesThrough, ReplacesThrough, bucket_of, dite, ℕ_discrete, at_number, at_number_same, at_number_other, replaced, without_object, ◌≢◌, Naming, HasRight, lent_chains, Names, ∥∥₁_elim, ⊎_elim, ◌⊎◌, length, inr, Me, chain_note, IsFree, MayLeave, reserved, reserved_free, reserved_linked, tabled_maps, Went, KnowsKeys, MayWriteIn, keys_walked, IsBucket, Directs, IsAmong, AreFrom, Each, HasKeysIn, HasNote, HasSeen, IsAlone, IsRunIn}
+use Rattle.rcu_hash.proofs.Cited.Words.{Bool, ◌≡◌, ℕ, ◌+◌, ◌<◌, ◌≤◌, ◌&&◌, List, [], ◌∷◌, Option, None, Some, true, refl, sym, ap, ◌∙◌, subst, inl, arith, slice_index_or, lt-ltb, mod_below, ObjectId, In, first_of, Log, Begins, IsLiveRun, record_of, state_of, LiveEvent, IsDirectory, tabled, begins_trans, chain_used, directory_alone, grows_log, linked_between, note_stays, run_of, ChainRight, View, IsListed, own_in, list_in, map_of, LeadsTo, directed_map, leads, words_by, ChangesThrough, InsertsThrough, RemovesThrough, ReplacesThrough, bucket_of, dite, ℕ_discrete, at_number, at_number_other, replaced, without_object, ◌≢◌, Naming, HasRight, lent_chains, Names, ∥∥₁_elim, ⊎_elim, ◌⊎◌, length, inr, Me, chain_note, IsFree, MayLeave, reserved, reserved_free, reserved_linked, tabled_maps, Went, KnowsKeys, MayWriteIn, keys_walked, IsBucket, Directs, IsAmong, Each, HasSeen, IsRunIn, AreKept, nat_tests}
 use Rattle.rcu_hash.proofs.Directing.{directed_is, map_same}
 use Rattle.rcu_list.specs.Calls as list
 
 -- two maps that agree on a key do so once another key is changed in both
 changed_same : (key : ℕ) (has : Option ℕ) (f g : ℕ → Option ℕ) (k : ℕ) → f k ≡ g k → at_number key has f k ≡ at_number key has g k
-changed_same key has f g k same = dite (ℕ_discrete k key)
-    (λ is. ap (at_number key has f) is ∙ (at_number_same key has f ∙ (sym (at_number_same key has g) ∙ ap (at_number key has g) (sym is))))
-    (λ apart. at_number_other key k has f apart ∙ (same ∙ sym (at_number_other key k has g apart)))
+changed_same key has f g k same = grind (arith, nat_tests)
 
 -- the words of a directory make it one
 pub by_words : (x : ℕ × List ℕ) (first buckets : ℕ) → x.1 ≡ words_by first buckets → IsDirectory x
@@ -171,12 +169,12 @@ bucket_walked qsbr n number m m' went listed is listed' b = bucket_on qsbr n m.0
     b
 
 -- the writers of reserved chains that have seen the log in which their directory came
-pub all_buckets : (qsbr : Bool) (n : Naming) (log : Log) → Directs n.directory n.object n.first n.buckets log → (k : ℕ) (vs : List View) → n.first ≤ k → k + length vs ≤ n.first + n.buckets → AreFrom k vs → Each (HasSeen log) vs → Each (IsRunIn qsbr) vs → Each IsListed vs → Each IsAlone vs → Each HasKeysIn vs → Each (HasNote (reserved n.object)) vs → Each (IsBucket n) vs
-all_buckets qsbr n log directs k [] low high from seen runs listed alone keys notes = tt
-all_buckets qsbr n log directs k (v ∷ vs) low high from seen runs listed alone keys notes =
-    let among : IsAmong n.first n.buckets (own_in v.chains).chain = subst (IsAmong n.first n.buckets) (sym from.0) (low, omega arith) in (
-      (alone.0, keys.0, notes.0, directs_on qsbr log v.seen (own_in v.chains).chain n.directory n.object n.first n.buckets seen.0 runs.0 directs among (listed.0.2 ∙ notes.0), among),
-      all_buckets qsbr n log directs (k + 1) vs (omega arith) (omega arith) from.1 seen.1 runs.1 listed.1 alone.1 keys.1 notes.1,
+pub all_buckets : (qsbr : Bool) (n : Naming) (log : Log) → Directs n.directory n.object n.first n.buckets log → (k : ℕ) (vs : List View) → n.first ≤ k → k + length vs ≤ n.first + n.buckets → Each (HasSeen log) vs → Each (IsRunIn qsbr) vs → Each IsListed vs → AreKept k (reserved n.object) vs → Each (IsBucket n) vs
+all_buckets qsbr n log directs k [] low high seen runs listed kept = tt
+all_buckets qsbr n log directs k (v ∷ vs) low high seen runs listed kept =
+    let among : IsAmong n.first n.buckets (own_in v.chains).chain = subst (IsAmong n.first n.buckets) (sym kept.0.0) (low, omega arith) in (
+      (kept.1.0, kept.2.0, kept.3.0, directs_on qsbr log v.seen (own_in v.chains).chain n.directory n.object n.first n.buckets seen.0 runs.0 directs among (listed.0.2 ∙ kept.3.0), among),
+      all_buckets qsbr n log directs (k + 1) vs (omega arith) (omega arith) seen.1 runs.1 listed.1 (kept.0.1, kept.1.1, kept.2.1, kept.3.1),
     )
 
 -- a bucket may be left

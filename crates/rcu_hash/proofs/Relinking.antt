@@ -1,7 +1,7 @@
 -- One directory takes the place of another: that this is allowed, and what it makes of the map.
-use Rattle.rcu_hash.proofs.Cited.Words.{Bool, ◌≡◌, ℕ, ◌+◌, ◌%◌, ◌<◌, ◌≤◌, List, [], ◌∷◌, ◌++◌, length, map, slice_get, slice_index_or, refl, sym, ap, ◌∙◌, subst, arith, zero, suc, mod_below, ObjectId, In, Log, Begins, IsLiveRun, record_of, state_of, tabled, chain_used, note_stays, run_of, ChainRight, View, AreAsKnown, IsListed, own_in, list_in, map_of, value_in, value_same, value_in_bucket, directed_map, words_by, bucket_of, AreFrom, Each, SawBefore, rights_of, value_at, ◌≢◌, ◌⊎◌, ◌^◌, Some, cond, true, false, inl, inr, ⊎_elim, replaced, same_object, at_number_other, at_number_same, object_tells, some_is, LiveEvent, Object, Replace, Has, chain_note, AreLeft, HasKey, IsDirectory, Names, reserved, begins_trans, replaced_note, lent_chains, cell_in, object_in, payload_in, MayPublish, replace_by, HasKeysIn, HasNote, HasSeen, IsRunIn}
+use Rattle.rcu_hash.proofs.Cited.Words.{Bool, ◌≡◌, ℕ, ◌+◌, ◌%◌, ◌<◌, ◌≤◌, List, [], ◌∷◌, ◌++◌, length, map, slice_get, slice_index_or, refl, sym, ap, ◌∙◌, subst, arith, zero, suc, mod_below, ObjectId, In, Log, Begins, IsLiveRun, record_of, state_of, tabled, run_of, ChainRight, View, AreAsKnown, IsListed, own_in, list_in, map_of, value_in, value_same, value_in_bucket, directed_map, words_by, bucket_of, AreFrom, Each, SawBefore, rights_of, value_at, ◌≢◌, ◌⊎◌, ◌^◌, Some, inl, inr, ⊎_elim, replaced, at_number_other, at_number_same, object_tells, some_is, LiveEvent, Object, Replace, Has, chain_note, AreLeft, IsDirectory, Names, reserved, begins_trans, replaced_note, lent_chains, cell_in, object_in, payload_in, MayPublish, replace_by, HasNote, HasSeen, IsRunIn, IsAlone, AreKept, KeepLists}
 use Rattle.rcu_hash.proofs.Directing.{directed_is}
-use Rattle.rcu_hash.proofs.Holds.{each_map, known_note, root_may}
+use Rattle.rcu_hash.proofs.Holds.{each_map, known_note, lists_cons, lists_same, note_listed, root_may}
 use Rattle.rcu_hash.proofs.Named.{leads_all, own_used, words_later, by_words}
 
 -- what the type of a writer says of each
@@ -19,8 +19,7 @@ module _ (qsbr : Bool) (log : Log) (run : IsLiveRun qsbr tabled log) where
   value_known : (v : View) (key : ℕ) → IsListed v → Begins v.seen log → (state_of log).chain (own_in v.chains).chain ≡ list_in v → map_of log (own_in v.chains).chain key ≡ value_in (record_of v.seen) (list_in v) key
   value_known v key listed saw is =
       ap (λ (os : List ObjectId). value_in (record_of log) os key) is
-      ∙ value_same (record_of v.seen) (record_of log) (list_in v) key (λ o h. note_stays qsbr tabled v.seen log o saw run
-      (chain_used qsbr tabled v.seen (own_in v.chains).chain o (run_of qsbr tabled v.seen log saw run) (subst (λ (l : List ObjectId). In l o) (sym listed.0) h)))
+      ∙ value_same (record_of v.seen) (record_of log) (list_in v) key (λ o h. note_listed qsbr v log o listed saw run h)
 
   -- and in the chain of its bucket, where these are as they are known
   value_there : (first k key : ℕ) (vs : List View) → AreAsKnown log (rights_of vs) → AreFrom first vs → Each IsListed vs → Each (SawBefore log) vs → k < length vs → map_of log (first + k) key ≡ value_at (slice_get vs k) key
@@ -39,14 +38,8 @@ module _ (qsbr : Bool) (log : Log) (run : IsLiveRun qsbr tabled log) where
       ∙ value_there first (key % buckets) key vs known from listed saw (omega arith))
 
 -- what replaces the one object of a list is the one object of it
-replaced_alone : (o new : ObjectId) → replaced o new (o ∷ []) ≡ new ∷ []
-replaced_alone o new = ⊎_elim
-    (λ (y : (same_object o o ≡ true) × (o ≡ o)). ap (λ (b : Bool). cond b new o ∷ []) y.0)
-    (λ (other : (same_object o o ≡ false) × (o ≢ o)). absurd (other.1 refl))
-    (object_tells o o)
-
 pub replaced_only : (p o new : ObjectId) (os : List ObjectId) → os ≡ o ∷ [] → p ≡ o → replaced p new os ≡ new ∷ []
-replaced_only p o new os is same = ap (replaced p new) is ∙ (ap (λ (z : ObjectId). replaced z new (o ∷ [])) same ∙ replaced_alone o new)
+replaced_only p o new os is same = let tells = object_tells o o in grind arith
 
 -- it is the object at the index 0
 pub first_only : (o p : ObjectId) (os : List ObjectId) → os ≡ o ∷ [] → slice_get os 0 ≡ Some p → o ≡ p
@@ -56,19 +49,24 @@ first_only o p os is at = some_is o p (sym (ap (λ (l : List ObjectId). slice_ge
 pub saw_on : (old log : Log) → Begins old log → (vs : List View) → Each (SawBefore old) vs → Each (SawBefore log) vs
 saw_on old log b vs saw = each_map (SawBefore old) (SawBefore log) (λ v s. begins_trans v.seen old log s b) vs saw
 
--- where writers have their rights again the objects of their chains have keys still
-pub keys_back : (qsbr : Bool) (log : Log) (vs ws : List View) → rights_of ws ≡ rights_of vs → Each IsListed vs → Each HasKeysIn vs → Each (SawBefore log) vs → Each (HasSeen log) ws → Each (IsRunIn qsbr) ws → Each HasKeysIn ws
-keys_back qsbr log vs [] same listed keys saw seen runs = tt
-keys_back qsbr log [] (w ∷ ws) same listed keys saw seen runs = cc
-keys_back qsbr log (v ∷ vs) (w ∷ ws) same listed keys saw seen runs =
-    let b : Begins v.seen w.seen = begins_trans v.seen log w.seen saw.0 seen.0 in
-    let own : own_in w.chains ≡ own_in v.chains = ap own_in same in (
-      λ o h.
-          let had : In (list_in v) o = subst (λ (x : ChainRight). In x.objects o) own h in
-          let there : In ((state_of v.seen).chain (own_in v.chains).chain) o = subst (λ (l : List ObjectId). In l o) (sym listed.0.0) had in
-          subst HasKey (sym (note_stays qsbr tabled v.seen w.seen o b runs.0 (chain_used qsbr tabled v.seen (own_in v.chains).chain o (run_of qsbr tabled v.seen w.seen b runs.0) there))) (keys.0 o had),
-      keys_back qsbr log vs ws (ap lent_chains same) listed.1 keys.1 saw.1 seen.1 runs.1,
-    )
+-- writers that have their rights again keep their lists, and their notes
+lists_back : (qsbr : Bool) (log : Log) (vs ws : List View) → rights_of ws ≡ rights_of vs → Each IsListed vs → Each (SawBefore log) vs → Each (HasSeen log) ws → Each (IsRunIn qsbr) ws → KeepLists vs ws
+lists_back qsbr log [] [] same listed saw seen runs = lists_same []
+lists_back qsbr log [] (w ∷ ws) same listed saw seen runs = absurd (cc)
+lists_back qsbr log (v ∷ vs) [] same listed saw seen runs = absurd (cc)
+lists_back qsbr log (v ∷ vs) (w ∷ ws) same listed saw seen runs =
+    let own : own_in w.chains ≡ own_in v.chains = ap own_in same in
+    lists_cons v w vs ws (ap (λ (x : ChainRight). x.chain) own) (ap (λ (x : ChainRight). x.objects) own)
+    (λ o has. note_listed qsbr v w.seen o listed.0 (begins_trans v.seen log w.seen saw.0 seen.0) runs.0 has) (lists_back qsbr log vs ws (ap lent_chains same) listed.1 saw.1 seen.1 runs.1)
+
+notes_back : (note : ℕ) (vs ws : List View) → rights_of ws ≡ rights_of vs → Each (HasNote note) vs → Each (HasNote note) ws
+notes_back note vs [] same notes = tt
+notes_back note [] (w ∷ ws) same notes = cc
+notes_back note (v ∷ vs) (w ∷ ws) same notes = (ap (λ (x : ChainRight). x.note) (ap own_in same) ∙ notes.0, notes_back note vs ws (ap lent_chains same) notes.1)
+
+pub kept_back : (qsbr : Bool) (log : Log) (first note : ℕ) (vs ws : List View) → rights_of ws ≡ rights_of vs → Each IsListed vs → Each (SawBefore log) vs → Each (HasSeen log) ws → Each (IsRunIn qsbr) ws → Each IsAlone ws → AreKept first note vs → AreKept first note ws
+kept_back qsbr log first note vs ws same listed saw seen runs alone kept =
+    let lists = lists_back qsbr log vs ws same listed saw seen runs in (lists.from first kept.0, alone, lists.keys kept.2, notes_back note vs ws same kept.3)
 
 -- the words of a writer's one object stay
 pub words_since : (qsbr : Bool) (v : View) (log : Log) (o : ObjectId) (first many : ℕ) → Begins v.seen log → IsLiveRun qsbr tabled log → IsListed v → list_in v ≡ o ∷ [] → (record_of v.seen o).1 ≡ words_by first many → (record_of log o).1 ≡ words_by first many

@@ -1,31 +1,21 @@
 -- What the keys of buckets tell that are taken one after the other.
-use Rattle.rcu_hash.proofs.Cited.Words.{◌≡◌, ◌≢◌, ◌⊎◌, ℕ, zero, suc, ◌+◌, ◌%◌, ◌<◌, ◌≤◌, ◌==◌, ◌||◌, Bool, true, false, nat_le, if◌then◌else◌, List, [], ◌∷◌, ◌++◌, length, Option, Some, slice_get, refl, sym, ap, ◌∙◌, append_assoc, subst, inl, inr, ⊎_elim, arith, eq-eqb, ne_eqb, cases_lt, le-leb, lt-leb, dite, ℕ_discrete, In, in_append, in_left, LiveEvent, Log, Begins, begins_trans, hold_at, Look, Loaded, Stored, Sizes, View, IsAfter, Ghosts, value_among, value_in_bucket, During, FindsFree, FindsTaken, IsInUse, IsUnused, IsAmong, are_apart, value_at, Result, Err, IfErr, IfOk, Refusal, PoolFull, cell_at, last_at, stores_in, GetsNoRecord, TakesRecord, FreesAll, FreesAllBut, IsLeftZero, KeepsNone}
+use Rattle.rcu_hash.proofs.Cited.Words.{◌≡◌, ◌≢◌, ◌⊎◌, ℕ, zero, ◌+◌, ◌%◌, ◌<◌, ◌≤◌, ◌==◌, Bool, false, if◌then◌else◌, List, [], ◌∷◌, ◌++◌, length, Some, slice_get, refl, sym, ap, ◌∙◌, append_assoc, subst, inl, inr, ⊎_elim, arith, cases_lt, dite, ℕ_discrete, In, in_append, in_left, LiveEvent, Log, Begins, begins_trans, hold_at, Look, Loaded, Stored, Sizes, IsAfter, Ghosts, value_among, During, FindsFree, FindsTaken, IsInUse, IsUnused, IsAmong, are_apart, Result, Err, IfErr, IfOk, Refusal, PoolFull, cell_at, last_at, stores_in, GetsNoRecord, TakesRecord, FreesAll, FreesAllBut, IsLeftZero, KeepsNone, nat_tests, common_steps, gets, Option}
 use Rattle.rcu_hash.proofs.Copies.{found_more, none_free}
 use Rattle.rcu_hash.proofs.Holds.{looks_both}
 
 get_last : {X : Type 0} (xs : List X) (x : X) → slice_get (xs ++ x ∷ []) (length xs) ≡ Some x
-get_last [] x = refl
-get_last (y ∷ ys) x = get_last ys x
+get_last xs x = grind (arith, common_steps, gets)
 
 get_other : {X : Type 0} (xs : List X) (x : X) (k : ℕ) → k ≢ length xs → slice_get (xs ++ x ∷ []) k ≡ slice_get xs k
-get_other [] x zero other = absurd (other refl)
-get_other [] x (suc k) other = refl
-get_other (y ∷ ys) x zero other = refl
-get_other (y ∷ ys) x (suc k) other = get_other ys x k (λ e. other (ap suc e))
+get_other xs x k other = grind (arith, common_steps, gets)
 
--- The buckets before this number are taken, and their keys copied. The next one counts its keys by a number of its own.
-module _ (buckets number : ℕ) (vs : List View) (es : List (ℕ × ℕ)) (many : length vs ≡ number) (copied : (key : ℕ) → value_among es key ≡ value_in_bucket buckets vs key) (own : ℕ) (same : own ≡ buckets) where
-  here : (v : View) (k : ℕ) → k ≡ number → slice_get (vs ++ v ∷ []) k ≡ Some v
-  here v k is = ap (slice_get (vs ++ v ∷ [])) (is ∙ sym many) ∙ get_last vs v
-
-  pub bucket_copied : (v : View) (fs : List (ℕ × ℕ)) → ((key : ℕ) → value_among fs key ≡ (if key % own == number then value_at (Some v) key else value_among es key)) → (key : ℕ) → value_among fs key ≡ value_in_bucket buckets (vs ++ v ∷ []) key
-  bucket_copied v fs more key =
-      let is_more = more key ∙ ap (λ (n : ℕ). if key % n == number then value_at (Some v) key else value_among es key) same in
-      dite (ℕ_discrete (key % buckets) number)
-      (λ is. is_more ∙ (ap (λ (b : Bool). if b then value_at (Some v) key else value_among es key) (eq-eqb (key % buckets) number is)
-      ∙ ap (λ (x : Option View). value_at x key) (sym (here v (key % buckets) is))))
-      (λ other. is_more ∙ (ap (λ (b : Bool). if b then value_at (Some v) key else value_among es key) (ne_eqb (key % buckets) number other)
-      ∙ (copied key ∙ ap (λ (x : Option View). value_at x key) (sym (get_other vs v (key % buckets) (λ e. other (e ∙ many)))))))
+-- The buckets before this number are taken, and their keys copied, where `value` tells what a key has in a bucket. The
+-- next one counts its keys by a number of its own.
+module _ {X : Type 0} (value : Option X → ℕ → Option ℕ) (buckets number : ℕ) (vs : List X) (es : List (ℕ × ℕ)) (many : length vs ≡ number) (copied : (key : ℕ) → value_among es key ≡ value (slice_get vs (key % buckets)) key) (own : ℕ) (same : own ≡ buckets) where
+  pub bucket_copied : (v : X) (fs : List (ℕ × ℕ)) → ((key : ℕ) → value_among fs key ≡ (if key % own == number then value (Some v) key else value_among es key)) → (key : ℕ) → value_among fs key ≡ value (slice_get (vs ++ v ∷ []) (key % buckets)) key
+  bucket_copied v fs more key = let is = more key in let was = copied key in dite (ℕ_discrete (key % buckets) number)
+      (λ here. let last = get_last vs v in grind (arith, nat_tests))
+      (λ apart. let other = get_other vs v (key % buckets) in grind (arith, nat_tests))
 
 -- what was so in some log of a part of a call
 module _ {W S : Type 0} (w : Ghosts W S) (qsbr : Bool) (allows : Log → LiveEvent → Type 0) (old mid new : W) where
@@ -80,18 +70,9 @@ other_hold sizes P found c word holds other h =
 
 -- two ranges that are not apart have a chain in common
 pub in_both : (a m b n : ℕ) → 0 < m → 0 < n → are_apart a m b n ≡ false → (c : ℕ) × IsAmong a m c × IsAmong b n c
-in_both a m b n some more apart = by (cases_lt b (a + m)) (cases_lt a (b + n))
-  where
-    never : true ≡ false → (c : ℕ) × IsAmong a m c × IsAmong b n c
-    never e = cc
-
-    by : (b < a + m) ⊎ (a + m ≤ b) → (a < b + n) ⊎ (b + n ≤ a) → (c : ℕ) × IsAmong a m c × IsAmong b n c
-    by (inr le) high = never (sym (λ i. le-leb (a + m) b le i || nat_le (b + n) a) ∙ apart)
-    by (inl low) (inr le) = never (sym (λ i. lt-leb (a + m) b low i || le-leb (b + n) a le i) ∙ apart)
-    by (inl low) (inl high) = ⊎_elim
-        (λ (under : b < a). (a, (omega arith, omega arith), (omega arith, high)))
-        (λ (over : a ≤ b). (b, (over, low), (omega arith, omega arith)))
-        (cases_lt b a)
+in_both a m b n some more apart =
+    let both : (b < a + m) × (a < b + n) = grind (arith, nat_tests) in
+    ⊎_elim (λ (under : b < a). (a, (omega arith, omega arith), (omega arith, omega arith))) (λ (over : a ≤ b). (b, (omega arith, omega arith), (omega arith, omega arith))) (cases_lt b a)
 
 -- what the looks and loads of one part of a call tell, and of one after the other
 module _ {W S : Type 0} (w : Ghosts W S) where
@@ -114,8 +95,7 @@ stores_both (Stored a n ∷ xs) ys = ap (λ (l : List (ℕ × ℕ)). (a, n) ∷ 
 
 zero_both : (place : ℕ) (xs ys : List (ℕ × ℕ)) → IsLeftZero place xs → IsLeftZero place ys → IsLeftZero place (xs ++ ys)
 zero_both place [] ys h k = k
-zero_both place (x ∷ xs) ys (inl last) k = inl last
-zero_both place (x ∷ xs) ys (inr past) k = inr (past.0, zero_both place xs ys past.1 k)
+zero_both place (x ∷ xs) ys h k = let rest = zero_both place xs ys in grind arith
 
 -- what was looked at before, and then more
 module _ (key : Sizes) (found more : List Look) where

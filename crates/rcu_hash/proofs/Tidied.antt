@@ -1,5 +1,5 @@
 -- What is left of directories that were replaced.
-use Rattle.rcu_hash.proofs.Cited.Words.{Bool, ◌≡◌, ◌≢◌, ℕ, ◌+◌, ◌≤◌, List, [], ◌∷◌, ◌++◌, length, refl, sym, ap, ◌∙◌, subst, inl, ⊎_elim, arith, zero, suc, length-append, ObjectId, In, replaced, at_number_same, in_objects, replaced_there, Object, Replace, Log, Begins, IsLiveRun, record_of, state_of, IsDirectory, IsReplaced, tabled, begins_trans, chain_used, linked_or_replaced, note_stays, replaced_note, run_of, Gv, ◌⊎◌, ◌<◌, Option, None, Some, IfNone, IsSome, map, option_map, slice_index_or, inr, ∥∥₁_map, cases_lt, map-append, at_object_same, some_is, LiveEvent, ChainNote, Push, Queue, Retire, Has, Names, beside, directory_alone, gone, has_since, linked_between, View, Queues, IsListed, own_in, list_in, chain_known, LoadedOnce, Synchronized, Writes, words_by, IsLinked, IsRest, IsTidied, LeavesOnly, WasCleared, WasReplaced, chains_in, AreFrom}
+use Rattle.rcu_hash.proofs.Cited.Words.{Bool, ◌≡◌, ◌≢◌, ℕ, ◌+◌, ◌≤◌, List, [], ◌∷◌, ◌++◌, length, refl, sym, ap, ◌∙◌, subst, inl, ⊎_elim, arith, zero, suc, length-append, ObjectId, In, replaced, at_number_same, in_objects, replaced_there, Object, Replace, Log, Begins, IsLiveRun, record_of, state_of, IsDirectory, IsReplaced, tabled, begins_trans, chain_used, linked_or_replaced, note_stays, replaced_note, run_of, Gv, ◌⊎◌, ◌<◌, Option, None, Some, IfNone, IsSome, map, option_map, slice_index_or, inr, ∥∥₁_map, map-append, at_object_same, some_is, LiveEvent, ChainNote, Push, Queue, Retire, Has, Names, beside, directory_alone, gone, has_since, linked_between, View, Queues, IsListed, own_in, list_in, chain_known, LoadedOnce, Synchronized, Writes, words_by, IsLinked, IsRest, IsTidied, LeavesOnly, WasCleared, WasReplaced, chains_in, AreFrom}
 use Rattle.rcu_hash.proofs.Emptying.{replaced_later}
 use Rattle.rcu_hash.proofs.Named.{by_words}
 
@@ -137,23 +137,20 @@ only_none qsbr d before log o cell first buckets wrote run b old new k w is dire
 
 -- of chains that follow one another each is there
 pub from_has : (first c : ℕ) (vs : List View) → AreFrom first vs → first ≤ c → c < first + length vs → In (chains_in vs) c
-from_has first c [] from low high = absurd (omega (arith, low, high))
-from_has first c (v ∷ vs) from low high = ⊎_elim
-    (λ (above : first < c). inr (from_has (first + 1) c vs from.1 (omega arith) (omega arith)))
-    (λ (under : c ≤ first). let same : first ≡ c = omega (arith, low, under) in inl (from.0 ∙ same))
-    (cases_lt first c)
+from_has first c [] from low high = grind arith
+from_has first c (v ∷ vs) from low high = let rest = from_has (first + 1) c vs from.1 in grind arith
 
 -- the last one of them, and the others
 chains_both : (vs : List View) (v : View) (c : ℕ) → In (chains_in (vs ++ v ∷ [])) c → In (chains_in vs) c ⊎ ((own_in v.chains).chain ≡ c)
-chains_both [] v c h = ⊎_elim (λ is. inr is) (λ none. absurd none) h
-chains_both (u ∷ vs) v c h = ⊎_elim (λ is. inl (inl is)) (λ more. ⊎_elim (λ one. inl (inr one)) (λ is. inr is) (chains_both vs v c more)) h
+chains_both [] v c h = grind arith
+chains_both (u ∷ vs) v c h = let rest = chains_both vs v c in grind arith
 
 pub chains_popped : {X : Type 0} (xs all : List X) (x : X) (f : X → View) (c : ℕ) → all ≡ xs ++ x ∷ [] → In (chains_in (map f all)) c → In (chains_in (map f xs)) c ⊎ ((own_in (f x).chains).chain ≡ c)
 chains_popped xs all x f c is h = chains_both (map f xs) (f x) c (subst (λ (vs : List View). In (chains_in vs) c) (ap (map f) is ∙ map-append f xs (x ∷ [])) h)
 
 chains_more : (vs : List View) (v : View) (c : ℕ) → In (chains_in vs) c ⊎ ((own_in v.chains).chain ≡ c) → In (chains_in (vs ++ v ∷ [])) c
-chains_more [] v c h = ⊎_elim (λ none. absurd none) (λ is. inl is) h
-chains_more (u ∷ vs) v c h = ⊎_elim (λ (one : In (chains_in (u ∷ vs)) c). ⊎_elim (λ is. inl is) (λ more. inr (chains_more vs v c (inl more))) one) (λ is. inr (chains_more vs v c (inr is))) h
+chains_more [] v c h = grind arith
+chains_more (u ∷ vs) v c h = let rest = chains_more vs v c in grind arith
 
 pub chains_pushed : {X : Type 0} (xs all : List X) (x : X) (f : X → View) (c : ℕ) → all ≡ xs ++ x ∷ [] → In (chains_in (map f xs)) c ⊎ ((own_in (f x).chains).chain ≡ c) → In (chains_in (map f all)) c
 chains_pushed xs all x f c is h = subst (λ (vs : List View). In (chains_in vs) c) (sym (ap (map f) is ∙ map-append f xs (x ∷ []))) (chains_more (map f xs) (f x) c h)
@@ -175,8 +172,7 @@ pub rest_none : (d : ℕ) (o : ObjectId) (vs : List View) (old : Option ObjectId
 rest_none d o vs old log empty none rest = ∥∥₁_map rest (λ r. only_weaker d log (In (chains_in vs)) (λ c. ⊥) (λ p. old ≡ Some p) (λ p. ⊥) (λ c h. subst (λ (us : List View). In (chains_in us) c) empty h) none r.1)
 
 pub some_there : {A : Type 0} (f : A → ObjectId) (r : Option A) (p : ObjectId) → option_map f r ≡ Some p → IsSome r
-some_there f None p is = cc
-some_there f (Some x) p is = refl
+some_there f r p is = grind arith
 
 -- waits before the one that was told of
 module _ (qsbr : Bool) (allows : Log → LiveEvent → Type 0) (seen heard seen' heard' : Log) (loads loads' waits new : List Log) (log : Log) (from_seen : Begins seen heard') (from_heard : Begins heard heard') (same : loads' ≡ waits ++ loads) where
@@ -222,8 +218,7 @@ rest_replaced qsbr d o new left first buckets vs start seen heard log cell paylo
     ))
 
 pub not_none : {A X : Type 0} (r : Option A) → r ≡ None → IsSome r → X
-not_none None is some = absurd (cc)
-not_none (Some x) is some = absurd (cc)
+not_none r is some = grind arith
 
 pub none_so : {A : Type 0} (r : Option A) (Q : Type 0) → Q → IfNone r Q
 none_so None Q so = so

@@ -1,5 +1,5 @@
 -- The writers of several chains, by what each of them knows.
-use Rattle.std.specs.Prelude.{Bool, ◌≡◌, ◌⊎◌, ℕ, ◌+◌, ◌<◌, ◌≤◌, List, [], ◌∷◌, Option, Some, None, IfSome, length}
+use Rattle.std.specs.Prelude.{Bool, ◌≡◌, ◌⊎◌, ℕ, ◌+◌, ◌<◌, ◌≤◌, List, [], ◌∷◌, Option, Some, None, IfSome, length, slice_get}
 use Rattle.std.specs.Coded.{×_prop}
 use Rattle.std.proofs.Props.{props}
 use Rattle.rcu_model.specs.declared.event.ObjectId.{ObjectId}
@@ -69,17 +69,6 @@ HasKeysIn v = (o : ObjectId) → In (list_in v) o → HasKey (record_of v.seen o
 abbrev pub IsOutside : ℕ → ℕ → View → Type 0
 IsOutside first many v = ((own_in v.chains).chain < first) ⊎ (first + many ≤ (own_in v.chains).chain)
 
--- it has the same list of the same chain, in a log that goes on
-abbrev pub IsSame : View → View → Type 0
-IsSame v w = ((own_in w.chains).chain ≡ (own_in v.chains).chain) × (list_in w ≡ list_in v) × Begins v.seen w.seen
-
--- it is so of each pair
-abbrev pub Pairwise : {X : Type 0} → (X → X → Type 0) → List X → List X → Type 0
-Pairwise is_so [] [] = Unit {0}
-Pairwise is_so [] (y ∷ ys) = ⊥
-Pairwise is_so (x ∷ xs) [] = ⊥
-Pairwise is_so (x ∷ xs) (y ∷ ys) = is_so x y × Pairwise is_so xs ys
-
 -- their chains follow one another, from the first one on
 abbrev pub AreFrom : ℕ → List View → Type 0
 AreFrom first [] = Unit {0}
@@ -89,6 +78,17 @@ AreFrom first (v ∷ vs) = ((own_in v.chains).chain ≡ first) × AreFrom (first
 abbrev pub value_at : Option View → ℕ → Option ℕ
 value_at None key = None
 value_at (Some v) key = value_in (record_of v.seen) (list_in v) key
+
+-- they follow one another, from the first one on; no chain was lent to one; their chains are of keys, and have this note
+abbrev pub AreKept : (first note : ℕ) → List View → Type 0
+AreKept first note vs = AreFrom first vs × Each IsAlone vs × Each HasKeysIn vs × Each (HasNote note) vs
+
+-- the second ones have the chains of the first, in their order, with the objects and the words that these had
+pub record KeepLists (vs ws : List View) : Type 0 where
+  pub from : (first : ℕ) → AreFrom first vs → AreFrom first ws
+  pub keys : Each HasKeysIn vs → Each HasKeysIn ws
+  pub nothing : Each HasNothing vs → Each HasNothing ws
+  pub values : (k key : ℕ) → value_at (slice_get ws k) key ≡ value_at (slice_get vs k) key
 
 -- that a fact is so of each is a fact
 pub each_prop : {X : Type 0} (P : X → Type 0) → ((x : X) → IsProp (P x)) → (xs : List X) → IsProp (Each P xs)

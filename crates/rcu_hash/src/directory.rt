@@ -10,7 +10,8 @@ ghost use Rattle.rcu_list.specs.live_write.Chains.{list_in};
 ghost use Rattle.rcu_hash.specs.Buckets.{HasRight};
 ghost use Rattle.rcu_hash.specs.Naming.{words_by};
 ghost use Rattle.rcu_hash.specs.Tables.{IsAmong};
-ghost use Rattle.rcu_hash.specs.Tidying.{IsLinked};
+ghost use Rattle.rcu_hash.specs.Tidying.{IsLeft, IsLinked};
+ghost use Rattle.rcu_hash.specs.Writers.{HasKeysIn, HasNote, IsOutside};
 
 use gp_memb::GracePlan;
 use live_log::Tabled;
@@ -121,7 +122,8 @@ impl<'d, P: GracePlan + Drop, B: Site, D: Deleter> DirectoryLock<'d, P, B, D> {
         unreachable!()
     }
 
-    /// Lends its right to the writer of another chain, for one step, while the lock is held. It waits for the lock.
+    /// Lends its right to the writer of a chain that an earlier directory named, for one step, while the lock is held. It
+    /// waits for the lock.
     pub(crate) fn lend<'t, R: Wait>(
         &'t self,
         rt: &R,
@@ -131,10 +133,11 @@ impl<'d, P: GracePlan + Drop, B: Site, D: Deleter> DirectoryLock<'d, P, B, D> {
         MutexGuard<'t, Option<Directory<'d, P, B, D>>>,
         LentDirectory<'d, P, B, D>,
     )
-        requires { lent_chains to.old.seat.me.0.chains ≡ [] }
+        requires { IsLeft naming.directory naming.first naming.buckets to.old.seat.me.0 }
         ensures naming { result.1.naming ≡ naming }
         ensures fits { (0 < naming.buckets) × (naming.first + naming.buckets ≤ B.sizes.chains) × (naming.directory + 1 < 2 ^ 63) }
         ensures right { HasRight naming to.new.seat.me.0 }
+        ensures left { HasKeysIn to.new.seat.me.0 × HasNote (naming.directory + 1) to.new.seat.me.0 × ∥ IsOutside naming.first naming.buckets to.new.seat.me.0 ∥₁ }
         ensures own { (own_in to.new.seat.me.0.chains ≡ own_in to.old.seat.me.0.chains) × (to.new.number ≡ to.old.number) × (to.new.home.now ≡ to.old.home.now) }
         ensures later { Begins to.old.seat.me.0.seen to.new.seat.me.0.seen × IsLiveRun P.QSBR tabled to.new.seat.me.0.seen }
     {

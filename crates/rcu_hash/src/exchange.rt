@@ -13,7 +13,7 @@ ghost use Rattle.rcu_hash.specs.Leaving.{Writes};
 ghost use Rattle.rcu_hash.specs.Buckets.{IsBucket};
 ghost use Rattle.rcu_hash.specs.Naming.{words_by};
 ghost use Rattle.rcu_hash.specs.Tidying.{IsRecord};
-ghost use Rattle.rcu_hash.specs.Writers.{AreFrom, Each, HasKeysIn, HasNote, IsAlone};
+ghost use Rattle.rcu_hash.specs.Writers.{AreKept, Each};
 
 use crate::directory::{Directory, Naming};
 use crate::rights::{lend_all, take_all_back};
@@ -46,10 +46,9 @@ pub(crate) fn exchange<'d, P: GracePlan + Drop, B: Site, D: Deleter, W: Caller<B
     Vec<Chain<'d, P, Tabled, B, D>>,
     Vec<Chain<'d, P, Tabled, B, D>>,
 )
-    requires olds { (vec_len olds.chains ≡ directory.naming.buckets) × AreFrom directory.naming.first (map (λ c. c.seat.me.0) olds.chains.items) × Each IsAlone (map (λ c. c.seat.me.0) olds.chains.items) × Each HasKeysIn (map (λ c. c.seat.me.0) olds.chains.items) }
-    requires news { (0 < vec_len news.chains) × (first + vec_len news.chains ≤ B.sizes.chains) × AreFrom first (map (λ c. c.seat.me.0) news.chains.items) × Each IsAlone (map (λ c. c.seat.me.0) news.chains.items) × Each HasKeysIn (map (λ c. c.seat.me.0) news.chains.items) }
+    requires olds { (vec_len olds.chains ≡ directory.naming.buckets) × AreKept directory.naming.first (directory.naming.directory + 1) (map (λ c. c.seat.me.0) olds.chains.items) }
+    requires news { (0 < vec_len news.chains) × (first + vec_len news.chains ≤ B.sizes.chains) × AreKept first (reserved (object_in owned.seat.me.0.object)) (map (λ c. c.seat.me.0) news.chains.items) }
     requires apart { ((directory.naming.directory < first) ⊎ (first + vec_len news.chains ≤ directory.naming.directory)) × ((directory.naming.first + directory.naming.buckets ≤ first) ⊎ (first + vec_len news.chains ≤ directory.naming.first)) }
-    requires noted { Each (HasNote (directory.naming.directory + 1)) (map (λ c. c.seat.me.0) olds.chains.items) × Each (HasNote (reserved (object_in owned.seat.me.0.object))) (map (λ c. c.seat.me.0) news.chains.items) }
     requires record { payload_in owned.seat.me.0.object ≡ words_by first (vec_len news.chains) }
     requires same { (key : ℕ) → value_in_bucket (vec_len news.chains) (map (λ c. c.seat.me.0) news.chains.items) key ≡ value_in_bucket (vec_len olds.chains) (map (λ c. c.seat.me.0) olds.chains.items) key }
     ensures directory { result.0.naming ≡ record { directory = directory.entry.naming.directory; object = object_in owned.seat.me.0.object; first = first; buckets = vec_len news.entry.chains } }
@@ -57,7 +56,7 @@ pub(crate) fn exchange<'d, P: GracePlan + Drop, B: Site, D: Deleter, W: Caller<B
     ensures object { object_in result.1.seat.me.0.object ≡ directory.entry.naming.object }
     ensures told { W.heard caller.new ≡ result.0.chain.seat.me.0.seen }
     ensures wrote { (cell : ℕ) × (w : Writes P.QSBR tabled (W.seen caller.old) (W.heard caller.old) (Object (Replace directory.entry.naming.directory directory.entry.naming.object (object_in owned.seat.me.0.object) cell (words_by first (vec_len news.entry.chains)))) (W.heard caller.new)) × ((state_of w.before).chain directory.entry.naming.directory ≡ directory.entry.naming.object ∷ []) × ((record_of w.before directory.entry.naming.object).1 ≡ words_by directory.entry.naming.first directory.entry.naming.buckets) }
-    ensures olds { (vec_len result.2 ≡ vec_len olds.entry.chains) × AreFrom directory.entry.naming.first (map (λ c. c.seat.me.0) result.2.items) × Each IsAlone (map (λ c. c.seat.me.0) result.2.items) × Each HasKeysIn (map (λ c. c.seat.me.0) result.2.items) × Each (HasNote (directory.entry.naming.directory + 1)) (map (λ c. c.seat.me.0) result.2.items) }
+    ensures olds { (vec_len result.2 ≡ vec_len olds.entry.chains) × AreKept directory.entry.naming.first (directory.entry.naming.directory + 1) (map (λ c. c.seat.me.0) result.2.items) }
     ensures news { (vec_len result.3 ≡ vec_len news.entry.chains) × Each (IsBucket result.0.naming) (map (λ c. c.seat.me.0) result.3.items) }
     ensures grown { (entries : List (ℕ × ℕ)) → AreApart entries → ((key : ℕ) → value_in_bucket (vec_len olds.entry.chains) (map (λ c. c.seat.me.0) olds.entry.chains.items) key ≡ value_among entries key) → (e : Exchanges P.QSBR tabled B.sizes.chains directory.entry.naming.directory (W.seen caller.old) (W.heard caller.old) directory.entry.naming.object first (vec_len news.entry.chains) entries (W.heard caller.new)) × (e.new ≡ object_in owned.seat.me.0.object) }
     ensures same { OnlyMakesLast W.Caller caller.old caller.new (W.heard caller.new) }

@@ -1,7 +1,6 @@
 //! How a table grows while it is read.
 
 ghost use Rattle.std.specs.Prelude.{◌≡◌, ◌⊎◌, ◌+◌, ◌<◌, ◌≤◌, ◌^◌, ◌++◌, [], ℕ, List, IfErr, IfOk, map, vec_capacity, vec_len};
-ghost use Rattle.std.specs.Sync.RwLock.{write_guard_value};
 ghost use Rattle.live_log.specs.Log.{Begins, Log, record_of};
 ghost use Rattle.live_log.specs.Tables.{tabled};
 ghost use Rattle.rcu_list.specs.live_rule.Rights.{payload_in};
@@ -15,7 +14,7 @@ ghost use Rattle.rcu_hash.specs.Naming.{words_by};
 ghost use Rattle.rcu_hash.specs.Refusing.{During, FindsFree};
 ghost use Rattle.rcu_hash.specs.Tables.{IsAmong, are_apart};
 ghost use Rattle.rcu_hash.specs.Tidying.{IsLinked, IsTidied};
-ghost use Rattle.rcu_hash.specs.Writers.{AreFrom, Each, HasNote, IsAlone, IsEmpty, IsRunIn, IsSame, Pairwise};
+ghost use Rattle.rcu_hash.specs.Writers.{AreFrom, Each, HasNote, IsAlone, IsEmpty, KeepLists};
 ghost use Rattle.rcu_hash.specs.Calls.{IsGrown, IsNotGrown};
 
 use crate::bucket::Bucket;
@@ -27,12 +26,13 @@ use crate::growth::Growth;
 use crate::making::{into_buckets, reserve_all};
 use crate::old_table::OldTable;
 use crate::table::{RcuHash, fits};
+use crossbeam_utils::sync::ShardedLockWriteGuard;
 use gp_memb::GracePlan;
 use live_log::Tabled;
 use rcu_list::{Caller, Chain, Deleter, Handle, Site};
 use rcu_model::Refusal;
 use std::alloc::Global;
-use std::sync::{RwLockWriteGuard, Wait};
+use std::sync::Wait;
 
 /// Whether these chains, this many from the first one on, are none of those that the directory names.
 fn are_apart(naming: Naming, first: usize, buckets: usize) -> bool
@@ -53,9 +53,8 @@ fn leave_all<'d, P: GracePlan + Drop, B: Site, D: Deleter, W: Caller<B>>(
     requires room { (chains.items ≡ []) × (vec_len taken ≤ vec_capacity chains) }
     requires taken { Each (λ b. b.naming ≡ naming) taken.items }
     requires low { naming.directory + 1 < 2 ^ 63 }
-    ensures left { (vec_len result ≡ vec_len taken.entry) × Pairwise IsSame (map (λ b. b.chain.seat.me.0) taken.entry.items) (map (λ c. c.seat.me.0) result.items) × Each (HasNote (naming.directory + 1)) (map (λ c. c.seat.me.0) result.items) × Each IsAlone (map (λ c. c.seat.me.0) result.items) }
+    ensures left { (vec_len result ≡ vec_len taken.entry) × KeepLists (map (λ b. b.chain.seat.me.0) taken.entry.items) (map (λ c. c.seat.me.0) result.items) × Each (HasNote (naming.directory + 1)) (map (λ c. c.seat.me.0) result.items) × Each IsAlone (map (λ c. c.seat.me.0) result.items) }
     ensures told { (first : ℕ) → AreFrom first (map (λ b. b.chain.seat.me.0) taken.entry.items) → NotesAll (Writes P.QSBR tabled (W.seen caller.old)) (naming.directory + 1) first (vec_len taken.entry) (W.heard caller.old) (W.heard caller.new) }
-    ensures runs { Each (IsRunIn P.QSBR) (map (λ c. c.seat.me.0) result.items) }
     ensures heard { Begins (W.heard caller.old) (W.heard caller.new) }
     ensures same { OnlyMakesMany W.Caller caller.old caller.new (vec_len taken.entry) }
 {
@@ -107,7 +106,7 @@ fn commit<'d, P: GracePlan + Drop, B: Site, D: Deleter, W: Caller<B>, R: Wait>(
         new_lents,
     } = growth;
     let (mut place, mut directory) = lock.take(rt, array.naming);
-    directory.chain.hear(caller);
+    directory.hear(caller);
     fill(&mut chains, caller, copied);
     let (owned, chains) = reserve_all(chains, reserved.noted, caller, owned);
     let olds = Lenders {
@@ -139,18 +138,24 @@ fn commit<'d, P: GracePlan + Drop, B: Site, D: Deleter, W: Caller<B>, R: Wait>(
 }
 
 impl<'d, P: GracePlan + Drop, B: Site, D: Deleter> RcuHash<'d, P, B, D> {
-    /// The array of the buckets that this directory names, for their only user.
+    /// The array of the buckets that this directory names, out of its lock, to which it is to be given back.
     fn own_array<'t, R: Wait>(
         &'t self,
         rt: &R,
         naming: Naming,
-    ) -> RwLockWriteGuard<'t, BucketArray<'d, P, B, D>>
-        ensures { (write_guard_value result).naming ≡ naming }
+    ) -> (
+        ShardedLockWriteGuard<'t, Option<BucketArray<'d, P, B, D>>>,
+        BucketArray<'d, P, B, D>,
+    )
+        ensures { result.1.naming ≡ naming }
     {
         for _ in rt.forever() {
-            let array = self.array.write(rt);
-            if array.naming.is(naming) {
-                return array;
+            let mut place = self.array.write(rt);
+            if let Some(array) = place.take() {
+                if array.naming.is(naming) {
+                    return (place, array);
+                }
+                *place = Some(array);
             }
         }
         unreachable!()
@@ -183,15 +188,19 @@ impl<'d, P: GracePlan + Drop, B: Site, D: Deleter> RcuHash<'d, P, B, D> {
             return (left, Err(Refusal::BadConfig));
         }
         let old = left.naming;
-        let mut array = self.own_array(rt, old);
+        let (mut place, mut array) = self.own_array(rt, old);
         if !are_apart(old, first, buckets) {
+            *place = Some(array);
             self.lock.hear(rt, old, caller);
             return (left, Err(Refusal::BadConfig));
         }
         let left = left.tell(rt, &self.lock, caller);
         let growth = match Growth::ready(rt, alloc, self.domain, &array, caller, first, buckets) {
             Ok(growth) => growth,
-            Err(refusal) => return (left, Err(refusal)),
+            Err(refusal) => {
+                *place = Some(array);
+                return (left, Err(refusal));
+            }
         };
         let many = growth.copied.len() + 1;
         let OldTable {
@@ -201,6 +210,7 @@ impl<'d, P: GracePlan + Drop, B: Site, D: Deleter> RcuHash<'d, P, B, D> {
             handle,
         } = left;
         let left = commit(rt, &self.lock, &mut array, caller, growth, handle, first);
+        *place = Some(array);
         (left, Ok(many))
     }
 

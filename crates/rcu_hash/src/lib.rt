@@ -22,7 +22,7 @@ pub use laws::buckets_answer_for_their_table;
 pub use rcu_list::{
     AnyChain, BarrierMark, Callback, Caller, Chain, ChainRule, Counts, Deleter, Domain, Finished,
     Handle, Held, Item, Job, Keyed, Lent, ListView, LiveConfig, LiveCookie, MapRule, Opened, Owned,
-    RcuList, Reader, Ripe, Section, Site, Stop, Tabled, Ticket, Unlinked, WorkerEnd,
+    RcuList, Reader, Ripe, Section, Site, Stop, Tabled, Ticket, Unlinked, WorkerEnd, readings_fit,
 };
 pub use table::RcuHash;
 pub use tidying::TidyEnd;

@@ -19,7 +19,7 @@ ghost use Rattle.rcu_hash.specs.Buckets.{IsBucket};
 ghost use Rattle.rcu_hash.specs.Naming.{words_by};
 ghost use Rattle.rcu_hash.specs.Refusing.{FindsFree, FindsTaken, IsUnused};
 ghost use Rattle.rcu_hash.specs.Tables.{IsAmong, bucket_of};
-ghost use Rattle.rcu_hash.specs.Writers.{AreFrom, Each, HasNoNote, HasNote, HasNothing, IsAlone, IsEmpty, IsRunIn, IsSame, Pairwise};
+ghost use Rattle.rcu_hash.specs.Writers.{AreFrom, AreKept, Each, HasNoNote, HasNote, HasNothing, IsAlone, IsEmpty, KeepLists};
 
 use crate::bucket::Bucket;
 use crate::bucket_array::Place;
@@ -131,9 +131,8 @@ pub(crate) fn reserve_all<'d, P: GracePlan + Drop, B: Site, D: Deleter, W: Calle
     requires room { (kept.items ≡ []) × (vec_len chains ≤ vec_capacity kept) }
     requires chains { Each HasNoNote (map (λ c. c.seat.me.0) chains.items) × Each IsAlone (map (λ c. c.seat.me.0) chains.items) }
     ensures owned { result.0.seat.me.0.object ≡ owned.seat.me.0.object }
-    ensures kept { (vec_len result.1 ≡ vec_len chains.entry) × Pairwise IsSame (map (λ c. c.seat.me.0) chains.entry.items) (map (λ c. c.seat.me.0) result.1.items) × Each (HasNote (reserved (object_in owned.seat.me.0.object))) (map (λ c. c.seat.me.0) result.1.items) × Each IsAlone (map (λ c. c.seat.me.0) result.1.items) }
+    ensures kept { (vec_len result.1 ≡ vec_len chains.entry) × KeepLists (map (λ c. c.seat.me.0) chains.entry.items) (map (λ c. c.seat.me.0) result.1.items) × Each (HasNote (reserved (object_in owned.seat.me.0.object))) (map (λ c. c.seat.me.0) result.1.items) × Each IsAlone (map (λ c. c.seat.me.0) result.1.items) }
     ensures told { (first : ℕ) → AreFrom first (map (λ c. c.seat.me.0) chains.entry.items) → NotesAll (Writes P.QSBR tabled (W.seen caller.old)) (reserved (object_in owned.seat.me.0.object)) first (vec_len chains.entry) (W.heard caller.old) (W.heard caller.new) }
-    ensures runs { Each (IsRunIn P.QSBR) (map (λ c. c.seat.me.0) result.1.items) }
     ensures heard { Begins (W.heard caller.old) (W.heard caller.new) }
     ensures same { OnlyMakesMany W.Caller caller.old caller.new (vec_len chains.entry) }
 {
@@ -165,7 +164,7 @@ pub(crate) fn direct<'d, P: GracePlan + Drop, B: Site, D: Deleter, W: Caller<B>>
     requires room { (lents.items ≡ []) × (vec_len chains ≤ vec_capacity lents) × (back.items ≡ []) × (vec_len chains ≤ vec_capacity back) }
     requires own { IsEmpty chain.seat.me.0 × IsAlone chain.seat.me.0 × IsLiveRun P.QSBR tabled chain.seat.me.0.seen }
     requires range { (0 < vec_len chains) × (first + vec_len chains ≤ B.sizes.chains) × ((chain.number < first) ⊎ (first + vec_len chains ≤ chain.number)) × (chain.number + 1 < 2 ^ 63) }
-    requires chains { AreFrom first (map (λ c. c.seat.me.0) chains.items) × Each HasNothing (map (λ c. c.seat.me.0) chains.items) × Each (HasNote (reserved (object_in owned.seat.me.0.object))) (map (λ c. c.seat.me.0) chains.items) × Each IsAlone (map (λ c. c.seat.me.0) chains.items) }
+    requires chains { AreKept first (reserved (object_in owned.seat.me.0.object)) (map (λ c. c.seat.me.0) chains.items) × Each HasNothing (map (λ c. c.seat.me.0) chains.items) }
     requires record { payload_in owned.seat.me.0.object ≡ words_by first (vec_len chains) }
     ensures told { W.heard caller.new ≡ result.0.chain.seat.me.0.seen }
     ensures directory { result.0.naming ≡ record { directory = chain.entry.number; object = object_in owned.seat.me.0.object; first = first; buckets = vec_len chains.entry } }

@@ -20,6 +20,7 @@ pub(crate) fn lend_all<'d, P: GracePlan + Drop, B: Site, D: Deleter>(
     requires room { (lents.items ≡ []) × (vec_len chains ≤ vec_capacity lents) }
     requires alone { Each IsAlone (map (λ c. c.seat.me.0) chains.items) }
     requires known { AreAsKnown to.old.seat.me.0.seen to.old.seat.me.0.chains × IsLiveRun P.QSBR tabled to.old.seat.me.0.seen }
+    ensures many { vec_len result ≡ vec_len chains.entry }
     ensures lents { map (λ l. (l.number, l.linked)) result.items ≡ lengths_of (rights_of (map (λ c. c.seat.me.0) chains.entry.items)) }
     ensures chains { to.new.seat.me.0.chains ≡ to.old.seat.me.0.chains ++ rights_of (map (λ c. c.seat.me.0) chains.entry.items) }
     ensures known { AreAsKnown to.new.seat.me.0.seen to.new.seat.me.0.chains × IsLiveRun P.QSBR tabled to.new.seat.me.0.seen }

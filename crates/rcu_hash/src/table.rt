@@ -1,7 +1,6 @@
 //! A hash table.
 
 ghost use Rattle.std.specs.Prelude.{◌≡◌, ◌⊎◌, ◌+◌, ◌<◌, IfErr, IfOk, true};
-ghost use Rattle.std.specs.Sync.RwLock.{read_guard_value};
 ghost use Rattle.live_log.specs.Log.{Begins};
 ghost use Rattle.live_log.specs.Tables.{tabled};
 ghost use Rattle.rcu_list.specs.live_read.Hearing.{IsAfter, MakesLast, MakesMany, Stays};
@@ -10,11 +9,12 @@ ghost use Rattle.rcu_hash.specs.Directories.{AnswersReader, HasNoKeys, VisitsTab
 ghost use Rattle.rcu_hash.specs.Freeing.{KeepsRecords};
 ghost use Rattle.rcu_hash.specs.Growing.{Founds};
 ghost use Rattle.rcu_hash.specs.Refusing.{FindsFree, RefusesInsertionThrough, RefusesRemovalThrough, RefusesReplacementThrough};
-ghost use Rattle.rcu_hash.specs.Tables.{IsAmong, fits};
+ghost use Rattle.rcu_hash.specs.Tables.{IsAmong, bucket_of, fits};
 ghost use Rattle.rcu_hash.specs.Calls.{IsInsertedThrough, IsNotMade, IsRemovedThrough, IsReplacedThrough};
 ghost use Rattle.rcu_list.specs.Calls.{TakesOneRecord};
 
-use crate::bucket_array::BucketArray;
+use crate::bucket::Bucket;
+use crate::bucket_array::{ArrayLock, BucketArray, empty_lock};
 use crate::directory::DirectoryLock;
 use crate::making::{direct, hold_all, hold_empty, into_buckets, reserve_all, room, rooms};
 use crate::old_table::OldTable;
@@ -24,7 +24,7 @@ use live_log::Tabled;
 use rcu_list::{Callback, Caller, Deleter, Domain, Section, Site, Ticket};
 use rcu_model::Refusal;
 use std::alloc::Global;
-use std::sync::{Mutex, RwLock, RwLockReadGuard, Wait};
+use std::sync::{Mutex, MutexGuard, Wait};
 
 /// The most buckets that a table has.
 pub(crate) const MOST_BUCKETS: usize = 4096;
@@ -54,7 +54,7 @@ pub struct RcuHash<'d, P: GracePlan, B: Site, D: Drop = Callback> {
     pub(crate) domain: &'d Domain<P, Tabled, B, D>,
     view: TableView<B>,
     pub(crate) lock: DirectoryLock<'d, P, B, D>,
-    pub(crate) array: RwLock<BucketArray<'d, P, B, D>>,
+    pub(crate) array: ArrayLock<'d, P, B, D>,
     pub(crate) left: Mutex<Option<OldTable<'d, P, B, D>>>,
     pub(crate) ghost at: { view.directory ≡ directory },
 }
@@ -92,6 +92,7 @@ impl<'d, P: GracePlan + Drop, B: Site, D: Deleter> RcuHash<'d, P, B, D> {
             return Err(Refusal::BadConfig);
         }
         let view = TableView::of(domain, directory)?;
+        let array = empty_lock(alloc)?;
         let (chains, noted, back, places) = rooms(alloc, buckets)?;
         let own = hold_empty(domain, caller, directory)?;
         let chains = hold_all(domain, caller, chains, first, buckets)?;
@@ -113,6 +114,7 @@ impl<'d, P: GracePlan + Drop, B: Site, D: Deleter> RcuHash<'d, P, B, D> {
             chains: Vec::new(alloc),
             handle: domain.split(caller),
         };
+        *array.write(rt) = Some(BucketArray { naming, buckets });
         Ok(RcuHash {
             directory,
             domain,
@@ -120,7 +122,7 @@ impl<'d, P: GracePlan + Drop, B: Site, D: Deleter> RcuHash<'d, P, B, D> {
             lock: DirectoryLock {
                 writer: Mutex::new(Some(writer)),
             },
-            array: RwLock::new(BucketArray { naming, buckets }),
+            array,
             left: Mutex::new(Some(left)),
         })
     }
@@ -132,14 +134,26 @@ impl<'d, P: GracePlan + Drop, B: Site, D: Deleter> RcuHash<'d, P, B, D> {
         self.view
     }
 
-    /// The array of its buckets, which writers of buckets read.
-    fn array<'t, R: Wait>(&'t self, rt: &R) -> RwLockReadGuard<'t, BucketArray<'d, P, B, D>>
-        ensures { (read_guard_value result).naming.directory ≡ self.now.directory }
+    /// The bucket of a key in the table's array, out of its lock, to which it is to be given back.
+    fn take<'t, R: Wait>(
+        &self,
+        rt: &R,
+        array: &'t Option<BucketArray<'d, P, B, D>>,
+        key: u64,
+    ) -> (
+        MutexGuard<'t, Option<Bucket<'d, P, B, D>>>,
+        Bucket<'d, P, B, D>,
+    )
+        ensures directory { result.1.naming.directory ≡ self.now.directory }
+        ensures key { bucket_of result.1.naming.first result.1.naming.buckets key ≡ result.1.chain.number }
     {
         for _ in rt.forever() {
-            let array = self.array.read(rt);
-            if array.naming.directory == self.directory {
-                return array;
+            if let Some(array) = array {
+                let (mut place, bucket) = array.take(rt, array.bucket(key));
+                if bucket.naming.directory == self.directory {
+                    return (place, bucket);
+                }
+                *place = Some(bucket);
             }
         }
         unreachable!()
@@ -172,8 +186,8 @@ impl<'d, P: GracePlan + Drop, B: Site, D: Deleter> RcuHash<'d, P, B, D> {
         ensures same { IfOk result (λ _. TakesOneRecord W.Caller caller.old caller.new B.sizes) }
         ensures refused { IfErr result (λ e. RefusesInsertionThrough W.Caller P.QSBR tabled B.sizes caller.old caller.new e self.now.directory key) }
     {
-        let array = self.array(rt);
-        let (mut place, mut bucket) = array.take(rt, array.bucket(key));
+        let array = self.array.read(rt, key as usize);
+        let (mut place, mut bucket) = self.take(rt, &array, key);
         let answer = bucket.insert(rt, caller, key, value);
         *place = Some(bucket);
         answer
@@ -198,8 +212,8 @@ impl<'d, P: GracePlan + Drop, B: Site, D: Deleter> RcuHash<'d, P, B, D> {
         ensures same { IfOk result (λ _. TakesOneRecord W.Caller caller.old caller.new B.sizes) }
         ensures refused { IfErr result (λ e. (e.1 ≡ callback) × RefusesReplacementThrough W.Caller P.QSBR tabled B.sizes caller.old caller.new e.0 self.now.directory key) }
     {
-        let array = self.array(rt);
-        let (mut place, mut bucket) = array.take(rt, array.bucket(key));
+        let array = self.array.read(rt, key as usize);
+        let (mut place, mut bucket) = self.take(rt, &array, key);
         let answer = bucket.replace(rt, caller, key, value, callback);
         *place = Some(bucket);
         answer
@@ -222,8 +236,8 @@ impl<'d, P: GracePlan + Drop, B: Site, D: Deleter> RcuHash<'d, P, B, D> {
         ensures same { IfOk result (λ _. (W.looks caller.new ≡ W.looks caller.old) × (W.loads caller.new ≡ W.loads caller.old)) }
         ensures refused { IfErr result (λ e. (e.1 ≡ callback) × RefusesRemovalThrough W.Caller P.QSBR tabled B.sizes caller.old caller.new e.0 self.now.directory key) }
     {
-        let array = self.array(rt);
-        let (mut place, mut bucket) = array.take(rt, array.bucket(key));
+        let array = self.array.read(rt, key as usize);
+        let (mut place, mut bucket) = self.take(rt, &array, key);
         let answer = bucket.remove(rt, caller, key, callback);
         *place = Some(bucket);
         answer

@@ -19,7 +19,7 @@ pub use Rattle.rcu_hash.specs.Publishing.{ChangesThrough, InsertsThrough, Remove
 pub use Rattle.rcu_hash.specs.Refusing.{During, HadIn, LackedThrough, RefusesInsertionThrough, RefusesRemovalThrough, RefusesReplacementThrough, FindsFree, FindsTaken, IsInUse, IsUnused}
 pub use Rattle.rcu_hash.specs.Tables.{IsAmong, bucket_of, are_apart}
 pub use Rattle.rcu_hash.specs.Tidying.{AreInRow, CountsLeft, IsRest, IsStopped, LeavesOnly, LinksStill, chains_in, numbers_of, objects_in, one_if, sum_of, AreFreed, ClearsNote, Cuts, Clears, Does, Follow, HasWaited, IsLeft, IsRefused, Kind, Retires, Uses, WasReplaced, callbacks_by, callbacks_in, cleared_by, cleared_in, change_by, changes_in, IsLinked, IsTidied, WasCleared, RetiresObject, IsRecord, IsQueueAmong}
-pub use Rattle.rcu_hash.specs.Writers.{AreFrom, Each, HasKeysIn, HasNote, HasSeen, IsAlone, IsRunIn, HasNoNote, IsEmpty, value_at, length_of, lengths_of, rights_of, IsOutside, SawBefore, HasNothing, IsSame, Pairwise}
+pub use Rattle.rcu_hash.specs.Writers.{AreFrom, Each, HasKeysIn, HasNote, HasSeen, IsAlone, IsRunIn, HasNoNote, IsEmpty, value_at, length_of, lengths_of, rights_of, IsOutside, SawBefore, HasNothing, AreKept, KeepLists}
 pub use Rattle.rcu_hash.specs.declared.directory.Naming.{Naming}
 pub use Rattle.rcu_list.proofs.Lemmas.{KnowsKeys, MayWriteIn, keys_walked, value_same, comes_above, keys_pushed, note_walked, same_own, stays_both, chain_known, keys_on, comes_in, pushed_map, rank_walked, by_result, by_second, found_there, if_err, walked_missing, cut_map, if_ok, keys_cut, may_remove, gives_back, keys_replaced, replaced_map, takes_over}
 pub use Rattle.rcu_list.proofs.live_read.Lemmas.{more_made, none_made, looks_twice, stays_makes, more_only, one_only, one_made, none_only}
@@ -58,10 +58,12 @@ pub use Rattle.std.proofs.Math.Logic.{∥∥₁_map, ∥∥₁_elim}
 pub use Rattle.std.proofs.Math.Nat.{mod-eq_of_lt}
 pub use Rattle.std.proofs.Math.Seq.{map-set_same}
 pub use Rattle.std.proofs.lemmas.Bool.{cases_lt, eqb-true, ltb-true, lt-ltb, le-leb, lt-leb}
+pub use Rattle.std.proofs.lemmas.Bool.Decides.{nat_tests}
+pub use Rattle.std.proofs.lemmas.Grind.{common_steps}
 pub use Rattle.std.proofs.lemmas.List.{map-append, append-nil, reverse-append, drop-append-le, drop_all, take-append-le, take_all, length-append, length-map, nil_from_length, map-set, length-set}
 pub use Rattle.std.proofs.lemmas.Nat.{mod_below}
-pub use Rattle.std.proofs.lemmas.Option.{slice_get_within, slice_get-map, slice_get_read}
-pub use Rattle.std.proofs.lemmas.Result.{err_from_is_err_and}
+pub use Rattle.std.proofs.lemmas.Option.{slice_get_within, slice_get-map, slice_get_read, IfSome_then, gets}
+pub use Rattle.std.proofs.lemmas.Result.{err_from_is_err_and, IfErr-weaker}
 pub use Rattle.std.specs.List.{FoldsTo}
 pub use Rattle.std.specs.Prelude.{is_some, Ok}
 pub use Rattle.std.specs.Sync.RwLock.{write_guard_value}

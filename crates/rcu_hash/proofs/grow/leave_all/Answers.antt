@@ -33,7 +33,7 @@ loop-preserved g c =
       noted = subst (λ (vs : List View). AreNoted w q note w0 all w2 (c.loop.counter + 1) vs (map (λ b. b.chain.seat.me.0) rest)) (sym views)
           (one_noted w q note w0 all w1 w2 c.loop.counter (map (λ x. x.seat.me.0) had) (map (λ b. b.chain.seat.me.0) rest) chain.seat.me.0 one.seat.me.0 chain.number note []
           (subst (λ bs. AreNoted w q note w0 all w1 c.loop.counter (map (λ x. x.seat.me.0) had) (map (λ b. b.chain.seat.me.0) bs)) first i.noted)
-          (length-map had (λ x. x.seat.me.0) ∙ (sym c.loop.chains.ok.0 ∙ i.room.0)) chain.owns.2 refl e.noted (one.owns.2 ∙ (e.note.3 ∙ sym chain.owns.2), e.note.1) e.note.0 (e.note.2 ∙ bucket.is.0) e.heard e.same);
+          (length-map had (λ x. x.seat.me.0) ∙ (sym c.loop.chains.ok.0 ∙ i.room.0)) chain.owns.2 refl chain.owns.1 e.noted (one.owns.2 ∙ (e.note.3 ∙ sym chain.owns.2), e.note.1) e.note.0 (e.note.2 ∙ bucket.is.0) e.heard e.same);
     }
 
 pub returns : goal.returns
@@ -43,7 +43,6 @@ returns g c =
     let many : c.loop.counter ≡ vec_len c.args.taken = let was = i.left in let end = c.loop-test.false in let most = c.loop.auto.counter-end in let many = c.len-many.ensures in omega arith in record {
       left = (let room = i.room in omega arith, all_noted w g.P.GracePlan.QSBR (c.args.naming.directory + 1) w0 all c.loop.caller c.loop.counter (map (λ x. x.seat.me.0) c.loop.chains.items) (map (λ b. b.chain.seat.me.0) left) n (ap (map (λ b. b.chain.seat.me.0)) none), n.noted, n.alone);
       told = λ start from. subst (λ (k : ℕ). NotesAll (Writes g.P.GracePlan.QSBR tabled (w.seen w0)) (c.args.naming.directory + 1) start k (w.heard w0) (w.heard c.loop.caller)) many (n.notes start from);
-      runs = n.runs;
       heard = n.heard;
       same = subst (OnlyMakesMany w w0 c.loop.caller) many n.told;
     }

@@ -1,4 +1,4 @@
-use Rattle.rcu_hash.proofs.Cited.{begins_trans, value_among, value_in_bucket, AreFrom, Each, Naming, stays_both, View, cell_in, ◌≡◌, ℕ, ◌+◌, [], ◌∷◌, ◌∙◌, ◌++◌, List, length, sym, ap, subst, arith, map, map-append, length-map, err_from_is_err_and, found_more, looks_both, each_last, from_last, bucket_copied, but_both}
+use Rattle.rcu_hash.proofs.Cited.{begins_trans, value_among, value_in_bucket, AreFrom, Each, Naming, stays_both, View, cell_in, ◌≡◌, ℕ, ◌+◌, [], ◌∷◌, ◌∙◌, ◌++◌, List, length, sym, ap, subst, arith, map, map-append, length-map, err_from_is_err_and, found_more, looks_both, each_last, from_last, bucket_copied, but_both, value_at}
 use Rattle.rcu_hash.proofs.growth.copy_all.Goals as goal
 
 pub loop-number-preserved : goal.loop-number-preserved
@@ -14,7 +14,7 @@ loop-number-preserved g c =
       from = subst (AreFrom array.naming.first) (sym views) (from_last array.naming.first vs v i.from (one.chain.owns.2 ∙ (e.walked.3 ∙ (t.1 ∙ ap (λ (n : ℕ). array.naming.first + n) (sym many)))));
       named = subst (Each (λ b. b.naming ≡ array.naming)) (sym p.items) (each_last (λ b. b.naming ≡ array.naming) had one i.named (e.walked.0 ∙ t.0));
       copied = subst (λ (us : List View). (key : ℕ) → value_among (map (λ x. (x.key, x.value)) c.copy-answer.new.copied.items) key ≡ value_in_bucket array.naming.buckets us key) (sym views)
-          (bucket_copied array.naming.buckets number vs (map (λ x. (x.key, x.value)) c.loop-number.copied.items) many i.copied c.take-place.result.1.naming.buckets own v (map (λ x. (x.key, x.value)) c.copy-answer.new.copied.items) ok.copied);
+          (bucket_copied value_at array.naming.buckets number vs (map (λ x. (x.key, x.value)) c.loop-number.copied.items) many i.copied c.take-place.result.1.naming.buckets own v (map (λ x. (x.key, x.value)) c.copy-answer.new.copied.items) ok.copied);
       apart = ok.apart;
       heard = begins_trans (w.heard w0) (w.heard w1) (w.heard w2) i.heard e.heard;
       looks = (

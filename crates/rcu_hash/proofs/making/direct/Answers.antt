@@ -1,4 +1,4 @@
-use Rattle.rcu_hash.proofs.Cited.{begins_trans, pushed_note, Log, Begins, record_of, state_of, Has, reserved, tabled, Object, Push, directed_map, LeadsTo, Writes, Directs, words_by, bucket_of, Each, HasKeysIn, HasNote, lengths_of, rights_of, HasNothing, chain_known, map_of, value_in, OnlyMakesLast, IsAfter, lent_chains, ChainRight, View, IsListed, own_in, cell_in, object_in, payload_in, AreAsKnown, at_number_other, ObjectId, ◌≡◌, ℕ, ◌+◌, ◌≤◌, [], ◌∷◌, ◌∙◌, ◌≢◌, ◌⊎◌, ◌<◌, ◌++◌, ◌^◌, List, length, refl, sym, ap, subst, inl, arith, None, map, take, slice_index_or, ⊎_elim, drop, vec_len, drop_all, take_all, length-map, mod_below, directed_is, each_map, rights_many, lents_many, from_rights, each_rights, known_empty, nothing_has_keys, may_direct, leads_there, leads_all, all_buckets, each_all}
+use Rattle.rcu_hash.proofs.Cited.{begins_trans, pushed_note, Log, Begins, record_of, state_of, Has, reserved, tabled, Object, Push, directed_map, LeadsTo, Writes, Directs, words_by, bucket_of, rights_of, chain_known, map_of, value_in, OnlyMakesLast, IsAfter, lent_chains, ChainRight, View, IsListed, own_in, cell_in, object_in, payload_in, AreAsKnown, at_number_other, ObjectId, ◌≡◌, ℕ, ◌+◌, ◌≤◌, [], ◌∷◌, ◌∙◌, ◌≢◌, ◌⊎◌, ◌<◌, ◌++◌, ◌^◌, List, length, refl, sym, ap, subst, inl, arith, None, map, slice_index_or, ⊎_elim, vec_len, length-map, mod_below, directed_is, rights_many, known_empty, may_direct, leads_there, leads_all, all_buckets, each_all, AreKept, append-nil, AreTheirs, all_theirs, saw_on, kept_back}
 use Rattle.rcu_hash.proofs.making.direct.Given.{Over}
 use Rattle.rcu_hash.proofs.making.direct.Goals.{After-lend_all-lents, After-push-object}
 use Rattle.rcu_hash.proofs.making.direct.Goals as goal
@@ -14,9 +14,6 @@ module _ (g : Over) (c : After-lend_all-lents g) where
   lent : c.lend_all-lents.new.to.seat.me.0.chains ≡ root ∷ rights_of named
   lent = c.lend_all-lents.ensures.chains ∙ ap (λ (xs : List ChainRight). xs ++ rights_of named) (c.args.chain.owns.0 ∙ ap (λ (xs : List ChainRight). root ∷ xs) c.requires.own.1)
 
-  many : length c.lend_all-lents.result.items ≡ length (rights_of named)
-  many = lents_many c.lend_all-lents.result.items (λ l. (l.number, l.linked)) (rights_of named) c.lend_all-lents.ensures.lents
-
 -- once the directory is in its chain
 module _ (g : Over) (c : After-push-object g) where
   abbrev lending : After-lend_all-lents g
@@ -25,11 +22,8 @@ module _ (g : Over) (c : After-push-object g) where
   abbrev after : Log
   after = c.push-object.new.self.seat.me.0.seen
 
-  named_still : lent_chains c.push-object.new.self.seat.me.0.chains ≡ rights_of (named g lending)
-  named_still = c.push-object.ensures.list.2 ∙ ap lent_chains (lent g lending)
-
-  named_taken : take (length c.lend_all-lents.result.items) (lent_chains c.push-object.new.self.seat.me.0.chains) ≡ rights_of (named g lending)
-  named_taken = let n = length c.lend_all-lents.result.items in let same = many g lending in ap (take n) named_still ∙ take_all n (rights_of (named g lending)) (omega arith)
+  named_back : AreTheirs c.lend_all-lents.result.items (λ l. (l.number, l.linked)) (rights_of (named g lending)) [] (lent_chains c.push-object.new.self.seat.me.0.chains)
+  named_back = all_theirs c.lend_all-lents.result.items (λ l. (l.number, l.linked)) (rights_of (named g lending)) [] (lent_chains c.push-object.new.self.seat.me.0.chains) (c.push-object.ensures.list.2 ∙ (ap lent_chains (lent g lending) ∙ sym (append-nil (rights_of (named g lending))))) c.lend_all-lents.ensures.lents
 
   own : own_in c.lend_all-lents.new.to.seat.me.0.chains ≡ root g lending
   own = ap own_in (lent g lending)
@@ -55,27 +49,24 @@ push-object-requires g c = record {
   rule =
       let a = (goal.at.push-object-requires g c).After-lend_all-lents in let chain = c.args.chain in let first = c.args.first in
       may_direct g.P.GracePlan.QSBR c.lend_all-lents.new.to.seat.me.0 c.args.owned.seat.me.0 (root g a) (rights_of (named g a)) chain.number first (length c.args.chains.items) (named g a) (lent g a) chain.owns.2 c.requires.own.0.1
-      (c.requires.record ∙ ap (words_by first) c.args.chains.ok.0) (length-map c.args.chains.items (λ x. x.seat.me.0)) c.requires.chains.0 c.requires.chains.2
+      (c.requires.record ∙ ap (words_by first) c.args.chains.ok.0) (length-map c.args.chains.items (λ x. x.seat.me.0)) c.requires.chains.0.0 c.requires.chains.0.3
       (subst (λ (n : ℕ). (chain.number < first) ⊎ (first + n ≤ chain.number)) c.args.chains.ok.0 c.requires.range.2) c.requires.range.3 (λ log k. k)
       (g.W.Caller.seen c.args.caller.now) (g.W.Caller.heard c.args.caller.now) c.requires.own.0.0;
 }
 
 pub take_all_back-back-requires-clause-room : goal.take_all_back-back-requires-clause-room
-take_all_back-back-requires-clause-room g c =
-    let a = (goal.at.take_all_back-back-requires-clause-room g c).After-lend_all-lents in let same = many g a in let rights = rights_many (named g a) in let views = length-map c.args.chains.items (λ x. x.seat.me.0) in
-    (c.requires.room.2, let fits = c.requires.room.3 in let one = c.lend_all-lents.result.ok in let two = c.args.chains.ok in omega arith)
+take_all_back-back-requires-clause-room g c = (c.requires.room.2, let fits = c.requires.room.3 in let many = c.lend_all-lents.ensures.many in omega arith)
 
 pub take_all_back-back-requires-clause-lents : goal.take_all_back-back-requires-clause-lents
-take_all_back-back-requires-clause-lents g c =
-    c.lend_all-lents.ensures.lents ∙ ap lengths_of (sym (named_taken g (goal.at.take_all_back-back-requires-clause-lents g c).After-push-object))
+take_all_back-back-requires-clause-lents g c = (named_back g (goal.at.take_all_back-back-requires-clause-lents g c).After-push-object).0
 
 pub invariant_of-result : goal.invariant_of-result
 invariant_of-result g c =
-    let i = (goal.at.invariant_of-result g c).After-push-object in let a = lending g i in let p = c.push-object.ensures in let t = c.take_all_back-back.ensures in let n = length c.lend_all-lents.result.items in let same = many g a in
+    let i = (goal.at.invariant_of-result g c).After-push-object in let a = lending g i in let p = c.push-object.ensures in let t = c.take_all_back-back.ensures in
     let back : own_in c.take_all_back-back.new.from.seat.me.0.chains ≡ own_in c.push-object.new.self.seat.me.0.chains = ap own_in t.from.0 in record {
       own = (
         sym c.number.ensures.number,
-        ap lent_chains t.from.0 ∙ (ap (drop n) (named_still g i) ∙ drop_all n (rights_of (named g a)) (omega arith)),
+        ap lent_chains t.from.0 ∙ (named_back g i).2,
         ap (λ (x : ChainRight). x.note) back ∙ (p.list.1 ∙ (ap (λ (x : ChainRight). x.note) (own g i) ∙ c.requires.own.0.1)),
       );
       alone = ap (λ (x : ChainRight). x.objects) back ∙ (p.list.0 ∙ ap (λ (os : List ObjectId). c.push-object.result ∷ os) (ap (λ (x : ChainRight). x.objects) (own g i) ∙ c.requires.own.0.0));
@@ -89,17 +80,16 @@ returns g c =
     let d = c.args.chain.number in let first = c.args.first in let n = length c.args.chains.items in let e = c.lend_all-lents.ensures in let p = c.push-object.ensures in let before : Log = p.pushed.before in let o = c.push-object.result in let u = c.args.owned.seat.me.0.object in let t = c.take_all_back-back.ensures in
     let back = c.take_all_back-back.result in let ws = map (λ x. x.seat.me.0) back.items in let size = c.args.chains.ok.0 in let range = c.requires.range in let size_is : c.len-buckets.result ≡ n = c.len-buckets.ensures ∙ size in
     let number = c.number.ensures.number ∙ (t.same.0 ∙ (p.list.3 ∙ e.same.0)) in let place = c.lend_all-lents.new.to.owns.2 ∙ e.same.0 in
-    let same : rights_of ws ≡ rights_of vs = t.chains ∙ named_taken g i in
+    let same : rights_of ws ≡ rights_of vs = t.chains ∙ (named_back g i).1 in
     let there : length ws ≡ n = sym (rights_many ws) ∙ (ap length same ∙ (rights_many vs ∙ length-map c.args.chains.items (λ x. x.seat.me.0))) in
-    let goes : Begins before log = (_ ∷ [], p.pushed.wrote) in record {
+    let goes : Begins before log = (_ ∷ [], p.pushed.wrote) in let three = c.lend_all-lents.new.to.seat.me.0 in
+    let saw = saw_on three.seen log (begins_trans three.seen before log p.pushed.after.after_writer.0 goes) vs e.later.1 in record {
       told = p.heard ∙ sym t.from.1;
       directory = λ j. record { directory = number j; object = p.object j; first = first; buckets = c.len-buckets.ensures j };
       chains = (
         let ok = back.ok in let views = length-map back.items (λ x. x.seat.me.0) in omega arith,
-        all_buckets q (record { directory = c.number.result; object = o; first = first; buckets = c.len-buckets.result }) log (subst (λ (k : ℕ). Directs k o first c.len-buckets.result log) (sym number) (alone g i, words g i ∙ ap (words_by first) (sym size_is))) first ws (omega arith) (omega arith) (from_rights first vs ws same c.requires.chains.0) t.alone.1 t.runs
-            (each_all IsListed back.items (λ x. x.seat.me.0) (λ x. x.owns.1)) t.alone.0
-            (each_map HasNothing HasKeysIn nothing_has_keys ws (each_rights (λ x. x.objects ≡ []) vs ws same c.requires.chains.1))
-            (subst (λ (x : ObjectId). Each (HasNote (reserved x)) ws) (sym p.object) (each_rights (λ x. x.note ≡ reserved (object_in u)) vs ws same c.requires.chains.2)),
+        all_buckets q (record { directory = c.number.result; object = o; first = first; buckets = c.len-buckets.result }) log (subst (λ (k : ℕ). Directs k o first c.len-buckets.result log) (sym number) (alone g i, words g i ∙ ap (words_by first) (sym size_is))) first ws (omega arith) (omega arith) t.alone.1 t.runs (each_all IsListed back.items (λ x. x.seat.me.0) (λ x. x.owns.1))
+            (subst (λ (x : ObjectId). AreKept first (reserved x) ws) (sym p.object) (kept_back q log first (reserved (object_in u)) vs ws same (each_all IsListed c.args.chains.items (λ x. x.seat.me.0) (λ x. x.owns.1)) saw t.alone.1 t.runs t.alone.0 c.requires.chains.0)),
       );
       map = λ key.
           let own_chain : ℕ = (own_in c.lend_all-lents.new.to.seat.me.0.chains).chain in let d_is : own_chain ≡ d = ap (λ (x : ChainRight). x.chain) (own g i) ∙ c.args.chain.owns.2 in
@@ -107,7 +97,7 @@ returns g c =
           let apart : bucket ≢ own_chain = λ is. ⊎_elim (λ (under : d < first). omega arith) (λ (over : first + vec_len c.args.chains ≤ d). omega arith) range.2 in
           let empty : (state_of log).chain bucket ≡ [] = ap (λ (l : Log). (state_of l).chain bucket) p.pushed.wrote
           ∙ (at_number_other own_chain bucket (object_in u ∷ (state_of before).chain own_chain) (state_of before).chain apart
-          ∙ known_empty before vs first bucket (subst (AreAsKnown before) (lent g a) p.pushed.known).1 c.requires.chains.0 c.requires.chains.1 (omega arith) (let many = length-map c.args.chains.items (λ x. x.seat.me.0) in omega arith)) in
+          ∙ known_empty before vs first bucket (subst (AreAsKnown before) (lent g a) p.pushed.known).1 c.requires.chains.0.0 c.requires.chains.1 (omega arith) (let many = length-map c.args.chains.items (λ x. x.seat.me.0) in omega arith)) in
           let none : directed_map chains d log key ≡ None =
           directed_is chains key (record_of log o) (leads_all chains first n (omega arith) (omega arith) (record_of log o) (words g i) key) log d o (alone g i) refl
           ∙ (ap (λ (z : List ℕ). map_of log (bucket_of (slice_index_or z 0 0) (slice_index_or z 1 0) key) key) (words g i) ∙ ap (λ (os : List ObjectId). value_in (record_of log) os key) empty) in

@@ -32,7 +32,7 @@ loop-preserved g c =
       noted = subst (λ (vs : List View). AreNoted w q note w0 all w2 (c.loop.counter + 1) vs (map (λ x. x.seat.me.0) rest)) (sym views)
           (one_noted w q note w0 all w1 w2 c.loop.counter (map (λ x. x.seat.me.0) had) (map (λ x. x.seat.me.0) rest) chain.seat.me.0 one.seat.me.0 chain.number (reserved (object_in c.loop.owned.seat.me.0.object)) c.loop.owned.seat.me.0.seen
           (subst (λ xs. AreNoted w q note w0 all w1 c.loop.counter (map (λ x. x.seat.me.0) had) (map (λ x. x.seat.me.0) xs)) first i.noted)
-          (length-map had (λ x. x.seat.me.0) ∙ (sym c.loop.kept.ok.0 ∙ i.room.0)) chain.owns.2 object e.noted (one.owns.2 ∙ (e.note.3 ∙ sym chain.owns.2), e.note.1) (e.note.0 ∙ object) (e.note.2 ∙ alone.0) e.heard e.same);
+          (length-map had (λ x. x.seat.me.0) ∙ (sym c.loop.kept.ok.0 ∙ i.room.0)) chain.owns.2 object chain.owns.1 e.noted (one.owns.2 ∙ (e.note.3 ∙ sym chain.owns.2), e.note.1) (e.note.0 ∙ object) (e.note.2 ∙ alone.0) e.heard e.same);
       owned = e.owned.0 ∙ i.owned;
     }
 
@@ -44,7 +44,6 @@ returns g c =
       owned = i.owned;
       kept = (let room = i.room in omega arith, all_noted w g.P.GracePlan.QSBR note w0 (map (λ x. x.seat.me.0) c.args.chains.items) c.loop.caller c.loop.counter (map (λ x. x.seat.me.0) c.loop.kept.items) (map (λ x. x.seat.me.0) left) n (ap (map (λ x. x.seat.me.0)) none), n.noted, n.alone);
       told = λ start from. subst (λ (k : ℕ). NotesAll (Writes g.P.GracePlan.QSBR tabled (w.seen w0)) note start k (w.heard w0) (w.heard c.loop.caller)) many (n.notes start from);
-      runs = n.runs;
       heard = n.heard;
       same = subst (OnlyMakesMany w w0 c.loop.caller) many n.told;
     }

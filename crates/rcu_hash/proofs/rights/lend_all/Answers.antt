@@ -40,6 +40,7 @@ loop-preserved g c =
 pub returns : goal.returns
 returns g c =
     let left = into_iter_items c.loop.rest in let i = c.loop.invariant in let all = c.args.chains.items in let none : left ≡ [] = nil_from_length left (omega (arith, c.loop.rest.rest.ok, i.left)) in record {
+      many = let room = i.room in let was = i.left in let end = c.loop-test.false in let most = c.loop.auto.counter-end in let len = c.len-many.ensures in omega arith;
       lents = all_done left (map (λ t. (t.number, t.linked)) c.loop.lents.items) (lengths_of (rights_of (map (λ x. x.seat.me.0) all))) (λ l. lengths_of (rights_of (map (λ x. x.seat.me.0) l))) none refl i.lents;
       chains = all_done left c.loop.to.seat.me.0.chains (c.args.to.now.seat.me.0.chains ++ rights_of (map (λ x. x.seat.me.0) all)) (λ l. rights_of (map (λ x. x.seat.me.0) l)) none refl i.chains;
       known = i.known;

@@ -1,4 +1,4 @@
-use Rattle.rcu_hash.proofs.Cited.{Log, Begins, Has, tabled, Object, Retire, IsStopped, Retires, Uses, WasReplaced, IsRecord, none_made, Queues, IsAfterAll, object_in, Unlinked, some_is, ObjectId, ◌≡◌, ℕ, [], ◌∷◌, ◌∙◌, ◌%◌, ◌++◌, refl, sym, ap, subst, inl, inr, Option, Some, option_map, IfSome, rules, replaced_later, refused_why, refused_finds, stays_none, queued_later, uses_none, uses_one, retired_by}
+use Rattle.rcu_hash.proofs.Cited.{Log, Begins, Has, tabled, Object, Retire, IsStopped, Retires, Uses, WasReplaced, IsRecord, none_made, Queues, IsAfterAll, object_in, Unlinked, some_is, ObjectId, ◌≡◌, ℕ, [], ◌∷◌, ◌∙◌, ◌%◌, ◌++◌, refl, sym, ap, subst, inl, inr, Option, Some, option_map, IfSome, rules, replaced_later, refused_why, refused_finds, stays_none, queued_later, uses_none, retired_by, uses_step}
 use Rattle.rcu_hash.proofs.tidying.retire_record.Goals as goal
 
 pub returns-in_default-clause-uses : goal.returns-in_default-clause-uses
@@ -17,7 +17,7 @@ returns-in-Ok-clause-uses g c d its =
     let w = g.W.Caller in let w0 = c.args.caller.now in let w2 = c.retire.new.caller in let u = c.in-Some.unlinked in let r = c.in-Ok.ensures.queued in let k = r.2 in
     let is : c.args.replaced.now ≡ Some u = search rules in
     let mine : IsRecord d u.chain u.seat.me.0 = subst (λ (x : Option (Unlinked g.row.B.Denot g.B.Site)). IfSome x (λ z. IsRecord d z.chain z.seat.me.0)) is its in
-    uses_one g.P.GracePlan.QSBR tabled g.B.Site.sizes d (w.seen w0) w g.row.D.coded.code w0 w2 c.args.jobs.now.items c.pop.new.self.items c.in-Some-pop.job (w.heard w0) (w.heard w2) (Retires (g.row.D.coded.code c.in-Some-pop.job)) refl refl (none_made w w0 w2 c.in-Ok.ensures.same.0.0) ([], c.in-Ok.ensures.same.0.1) c.in-Some-pop.ensures.items (record {
+    uses_step g.P.GracePlan.QSBR tabled g.B.Site.sizes d (w.seen w0) w g.row.D.coded.code w0 w2 c.args.jobs.now.items c.pop.new.self.items (c.in-Some-pop.job ∷ []) (w.heard w0) (w.heard w2) (w.heard w2) (Retires (g.row.D.coded.code c.in-Some-pop.job)) [] c.in-Some-pop.ensures.items refl (none_made w w0 w2 c.in-Ok.ensures.same.0.0) c.in-Ok.ensures.same.0.1 (λ k none. absurd none) (record {
       object = object_in u.seat.me.0.object;
       given = r.0;
       queued = subst (λ (x : ℕ). Queues g.P.GracePlan.QSBR tabled (λ (at : Log). Begins (w.seen w0) at × Begins (w.heard w0) at × WasReplaced d (object_in u.seat.me.0.object) at) (object_in u.seat.me.0.object) (x % g.B.Site.sizes.queues) r.0 (g.row.D.coded.code c.in-Some-pop.job) (w.heard w2)) mine.0 (record {
@@ -31,7 +31,7 @@ returns-in-Ok-clause-uses g c d its =
         last = k.last;
         run = k.run;
       });
-    })
+    }) ([], refl)
 
 pub returns-in-Ok-clause-heard : goal.returns-in-Ok-clause-heard
 returns-in-Ok-clause-heard g c =

@@ -1,4 +1,4 @@
-use Rattle.rcu_hash.proofs.Cited.{begins_trans, Log, Begins, tabled, ClearsNote, IsLeft, Uses, WasCleared, own_in, ◌≡◌, ℕ, [], ◌∷◌, ◌∙◌, ◌%◌, refl, sym, ap, subst, inl, inr, arith, ⊎_elim, from_popped, from_pushed, stopped_for, waited_later, finds_both, finds_none, stays_none, heard_on, uses_none, uses_both, uses_no, each_popped, each_pushed, objects_pushed, cleared_since, chains_popped, chains_pushed}
+use Rattle.rcu_hash.proofs.Cited.{begins_trans, Log, Begins, tabled, ClearsNote, IsLeft, Uses, WasCleared, own_in, ◌≡◌, ℕ, [], ◌∷◌, ◌∙◌, ◌%◌, refl, sym, ap, subst, inl, inr, arith, ⊎_elim, from_popped, from_pushed, stopped_for, waited_later, finds_both, finds_none, stays_none, heard_on, uses_none, uses_both, each_popped, each_pushed, objects_pushed, cleared_since, chains_popped, chains_pushed, Clears, hold_at, Stored, append-nil, uses_step}
 use Rattle.rcu_hash.proofs.directory.DirectoryLock.clear_all.Goals as goal
 
 pub loop-init : goal.loop-init
@@ -36,7 +36,7 @@ loop-preserved g c =
       left = let fewer = c.in-Some.ensures.len in let was = i.left in omega arith;
       uses = uses_both q tabled sizes d (w.seen w0) w g.row.D.coded.code w0 w2 w3 first left left (w.heard w0) (w.heard w2) (w.heard w3)
           (uses_both q tabled sizes d (w.seen w0) w g.row.D.coded.code w0 w1 w2 first jobs left (w.heard w0) (w.heard w1) (w.heard w2) i.uses uses)
-          (uses_no q tabled sizes d (w.seen w0) w g.row.D.coded.code w2 w3 left (w.heard w2) at (w.heard w3) n1 b.same.0 b.freed clears b.cleared.2);
+          (uses_step q tabled sizes d (w.seen w0) w g.row.D.coded.code w2 w3 left left [] (w.heard w2) at (w.heard w3) (Clears n1) (Stored (hold_at sizes n1) 0 ∷ []) (sym (append-nil left)) refl b.same.0 b.freed (λ k h. ⊎_elim (λ is. inl (ap (λ (j : ℕ). Stored (hold_at sizes j) 0) is)) (λ none. absurd none) h) clears b.cleared.2);
       chains = (each_popped c.pop.new.self.items c.loop.chains.items c.in-Some.chain (λ x. x.seat.me.0) (IsLeft n.directory n.first n.buckets) c.in-Some.ensures.items i.chains).0;
       cleared = λ k h. ⊎_elim
           (λ (z : WasCleared (w.heard w0) k (w.heard w1)). inl (cleared_since (w.heard w0) (w.heard w1) (w.heard w3) k all z))

@@ -1,22 +1,12 @@
-use Rattle.rcu_hash.proofs.Cited.{begins_trans, Log, Begins, chain_note, tabled, ChainNote, HasRight, Writes, ClearsNote, Naming, more_made, none_made, one_made, MakesMany, hold_at, ChainRight, Look, Stored, own_in, ◌≡◌, ℕ, ◌+◌, ◌≤◌, [], ◌∷◌, ◌∙◌, ◌⊎◌, ◌<◌, List, refl, sym, ap, subst, arith, leaves_left, may_clear_left, right_on}
-use Rattle.rcu_hash.proofs.directory.DirectoryLock.give_back.Given.{Over}
-use Rattle.rcu_hash.proofs.directory.DirectoryLock.give_back.Goals.{After-lend-place}
+use Rattle.rcu_hash.proofs.Cited.{begins_trans, Log, Begins, chain_note, tabled, ChainNote, HasRight, Writes, ClearsNote, Naming, more_made, none_made, one_made, MakesMany, hold_at, ChainRight, Look, Stored, ◌≡◌, ℕ, ◌+◌, [], ◌∷◌, ◌∙◌, List, refl, sym, ap, subst, arith, leaves_left, may_clear_left, right_on}
 use Rattle.rcu_hash.proofs.directory.DirectoryLock.give_back.Goals as goal
-
--- what is known of the chain once the directory's right is lent to its writer
-module _ (g : Over) (c : After-lend-place g) where
-  noted : (own_in c.lend-place.new.to.seat.me.0.chains).note ≡ c.args.naming.directory + 1
-  noted = ap (λ (x : ChainRight). x.note) c.lend-place.ensures.own.0 ∙ c.requires.chain.2
-
-  outside : ∥ ((own_in c.lend-place.new.to.seat.me.0.chains).chain < c.args.naming.first) ⊎ (c.args.naming.first + c.args.naming.buckets ≤ (own_in c.lend-place.new.to.seat.me.0.chains).chain) ∥₁
-  outside = subst (λ (k : ℕ). ∥ (k < c.args.naming.first) ⊎ (c.args.naming.first + c.args.naming.buckets ≤ k) ∥₁) (ap (λ (x : ChainRight). x.chain) (sym c.lend-place.ensures.own.0)) c.requires.chain.3
 
 pub set_note-requires : goal.set_note-requires
 set_note-requires g c = record {
   rule =
-      let a = (goal.at.set_note-requires g c).After-lend-place in let w = g.W.Caller in let w0 = c.args.caller.now in let three = c.lend-place.new.to in let e = c.lend-place.ensures in
-      may_clear_left g.P.GracePlan.QSBR c.args.naming three.seat.me.0 e.right three.owns.0 three.owns.1 (noted g a) (w.seen w0) (w.heard w0) c.requires.waited three.number e.fits.2 three.owns.2
-      (ap (λ (x : ChainRight). x.objects) e.own.0 ∙ c.requires.nothing) (outside g a);
+      let w = g.W.Caller in let w0 = c.args.caller.now in let three = c.lend-place.new.to in let e = c.lend-place.ensures in
+      may_clear_left g.P.GracePlan.QSBR c.args.naming three.seat.me.0 e.right three.owns.0 three.owns.1 e.left.1 (w.seen w0) (w.heard w0) c.requires.waited three.number e.fits.2 three.owns.2
+      (ap (λ (x : ChainRight). x.objects) e.own.0 ∙ c.requires.nothing) e.left.2;
 }
 
 pub take_back-requires : goal.take_back-requires
@@ -26,10 +16,10 @@ take_back-requires g c =
 
 pub returns : goal.returns
 returns g c =
-    let a = (goal.at.returns g c).After-lend-place in let q = g.P.GracePlan.QSBR in let w = g.W.Caller in let sizes = g.B.Site.sizes in let n = c.args.naming in let w0 = c.args.caller.now in let w2 = c.set_note.new.caller in let w3 = c.release.new.caller in
+    let q = g.P.GracePlan.QSBR in let w = g.W.Caller in let sizes = g.B.Site.sizes in let n = c.args.naming in let w0 = c.args.caller.now in let w2 = c.set_note.new.caller in let w3 = c.release.new.caller in
     let three = c.lend-place.new.to in let e = c.lend-place.ensures in let k = c.set_note.ensures.noted in let log : Log = c.set_note.new.self.seat.me.0.seen in let r = c.release.ensures in let s = c.set_note.ensures.same in let alone : 1 + 0 ≡ 1 = omega arith in
     let writes : Writes q tabled (w.seen w0) (w.heard w0) (ChainNote three.number 0) log = record { before = k.before; wrote = k.wrote; after = k.after.after_caller; run = k.run } in
-    let left = leaves_left q n three.seat.me.0 e.right three.owns.0 three.owns.1 (noted g a) (w.seen w0) (w.heard w0) (ChainNote three.number 0) log writes k.after.after_writer.0 k.known (λ i other. refl) sizes.chains e.fits.0 e.fits.1 (outside g a) in
+    let left = leaves_left q n three.seat.me.0 e.right three.owns.0 three.owns.1 e.left.1 (w.seen w0) (w.heard w0) (ChainNote three.number 0) log writes k.after.after_writer.0 k.known (λ i other. refl) sizes.chains e.fits.0 e.fits.1 e.left.2 in
     let goes : Begins log (w.heard w3) = subst (λ (l : Log). Begins l (w.heard w3)) c.set_note.ensures.heard r.heard.0.after_heard in record {
       cleared = (log, subst (λ (i : ℕ). ClearsNote q tabled sizes n.directory (w.seen w0) (w.heard w0) i log) e.own.1 (record { leaves = record { writes = writes; map = left.0 }; noted = ap (λ (i : ℕ). chain_note i k.before) (sym three.owns.2) ∙ left.1 }), goes);
       own = record { at = k.before; after = k.after.after_caller.1; before = subst (λ (l : Log). Begins l (w.heard w3)) (k.wrote ∙ (λ i. ChainNote (e.own.1 i) 0 ∷ k.before)) goes };

@@ -1,4 +1,4 @@
-use Rattle.rcu_hash.proofs.Cited.{Log, tabled, Cuts, Uses, RetiresObject, [], ◌∷◌, ◌∙◌, ◌++◌, refl, sym, ap, subst, arith, waited_later, finds_both, finds_none, stays_none, uses_none, uses_both, uses_one}
+use Rattle.rcu_hash.proofs.Cited.{Log, tabled, Cuts, Uses, RetiresObject, [], ◌∷◌, ◌∙◌, ◌++◌, refl, sym, ap, subst, arith, waited_later, finds_both, finds_none, stays_none, uses_none, uses_both, uses_step}
 use Rattle.rcu_hash.proofs.directory.DirectoryLock.retire_all.Goals as goal
 
 pub loop-init : goal.loop-init
@@ -37,7 +37,7 @@ loop-preserved g c =
     let does = subst (λ (seen : Log). RetiresObject q tabled sizes d seen (w.heard w1) (g.row.D.coded.code c.in-Some.job) (w.heard w2)) i.uses.made.made.0 e.retired.0 in record {
       left = let fewer = e.retired.1 in let was = i.left in omega arith;
       uses = uses_both q tabled sizes d (w.seen w0) w g.row.D.coded.code w0 w1 w2 first jobs left (w.heard w0) (w.heard w1) (w.heard w2) i.uses
-          (uses_one q tabled sizes d (w.seen w0) w g.row.D.coded.code w1 w2 jobs left c.in-Some.job (w.heard w1) (w.heard w2) (Cuts (g.row.D.coded.code c.in-Some.job)) refl refl e.changes.0 e.same.1 c.in-Some.ensures.items does);
+          (uses_step q tabled sizes d (w.seen w0) w g.row.D.coded.code w1 w2 jobs left (c.in-Some.job ∷ []) (w.heard w1) (w.heard w2) (w.heard w2) (Cuts (g.row.D.coded.code c.in-Some.job)) e.same.1.0 c.in-Some.ensures.items refl e.changes.0 e.same.1.1 (λ k none. absurd none) does ([], refl));
       chain = e.chain;
       number = e.number ∙ i.number;
       waited = waited_later d n.object (w.heard w1) (w.heard w2) e.heard i.waited;

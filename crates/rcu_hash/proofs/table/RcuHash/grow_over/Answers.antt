@@ -1,16 +1,15 @@
-use Rattle.rcu_hash.proofs.Cited.{begins_trans, Log, Begins, chain_note, record_of, tabled, value_in_bucket, buckets_in, Grows, IsUnused, IsAmong, are_apart, IsLinked, IsTidied, Naming, more_made, none_made, MakesMany, Look, cell_in, ◌≡◌, ℕ, ◌+◌, [], ◌∷◌, ◌∙◌, ◌≢◌, ◌<◌, ◌++◌, List, length, refl, sym, ap, subst, inl, inr, arith, false, map, ⊎_elim, vec_len, rules, length-map, nil_from_length, write_guard_value, grows_since, grows_go, during_since, during_earlier, taken_since, in_both, rest_none, some_there}
+use Rattle.rcu_hash.proofs.Cited.{begins_trans, Log, Begins, chain_note, record_of, tabled, value_in_bucket, buckets_in, Grows, IsUnused, IsAmong, are_apart, IsLinked, IsTidied, Naming, more_made, none_made, MakesMany, Look, cell_in, ◌≡◌, ℕ, ◌+◌, [], ◌∷◌, ◌∙◌, ◌≢◌, ◌<◌, ◌++◌, List, length, refl, sym, ap, subst, inl, inr, arith, false, map, ⊎_elim, vec_len, rules, length-map, nil_from_length, grows_since, grows_go, during_since, during_earlier, taken_since, in_both, rest_none, some_there}
 use Rattle.rcu_hash.proofs.table.RcuHash.grow_over.Goals as goal
 
 pub commit-left-requires-clause-copied : goal.commit-left-requires-clause-copied
 commit-left-requires-clause-copied g c =
-    let e = c.in-Ok.ensures.copied in let same = c.deref.ensures ∙ sym c.deref_mut.ensures.value in
-    (λ key. e.0 key ∙ (λ i. value_in_bucket (same i).naming.buckets (map (λ b. b.chain.seat.me.0) c.in-Ok.growth.taken.items) key), e.1, e.2)
+    c.in-Ok.ensures.copied
 
 -- nothing was left when the caller heard of what is
 pub commit-left-requires-clause-tidied : goal.commit-left-requires-clause-tidied
 commit-left-requires-clause-tidied g c =
     let t = c.tell-left.ensures in let log : Log = g.W.Caller.heard c.tell-left.new.caller in let l = c.args.left in
-    let same : c.deref_mut.result.now.naming ≡ l.naming = (λ i. (c.deref_mut.ensures.value i).naming) ∙ c.own_array-array.ensures in
+    let same : c.own_array-place.result.1.naming ≡ l.naming = c.own_array-place.ensures in
     let empty : l.chains.items ≡ [] = nil_from_length l.chains.items (let none = c.if-len-ne0.false in let len = c.len.ensures in let ok = l.chains.ok.0 in omega arith) in (
       log,
       c.ready.ensures.heard,
@@ -37,7 +36,7 @@ returns-then-not-are_apart-clause-refused g c =
     let w = g.W.Caller in let n = c.args.left.naming in let h = c.hear-then-not-are_apart.ensures in let log : Log = w.heard c.hear-then-not-are_apart.new.caller in
     let apart : are_apart n.first n.buckets c.args.first c.args.buckets ≡ false = sym c.are_apart.ensures ∙ c.if-not-are_apart.true in
     let some : 0 < c.args.buckets = search rules in
-    let here : 0 < n.buckets = subst (λ (m : Naming). 0 < m.buckets) c.own_array-array.ensures (write_guard_value c.own_array-array.result).many.0 in
+    let here : 0 < n.buckets = subst (λ (m : Naming). 0 < m.buckets) c.own_array-place.ensures c.own_array-place.result.1.many.0 in
     let both = in_both n.first n.buckets c.args.first c.args.buckets here some apart in
     let noted : chain_note both.0 log ≢ 0 = h.noted both.0 both.1 in
     inr (inl (refl, inr (record { chain = both.0; one = both.2; found = []; looks = h.same.0.1; why = inr (record { at = log; after = h.heard; before = ([], refl); so = inr noted }) })))
@@ -54,11 +53,11 @@ invariant_of-left g c = let l = c.tell-left.result in record { some = l.some; le
 pub returns : goal.returns
 returns g c =
     let q = g.P.GracePlan.QSBR in let w = g.W.Caller in let w0 = c.args.caller.now in let wt = c.tell-left.new.caller in let w1 = c.ready.new.caller in let w2 = c.commit-left.new.caller in let log : Log = w.heard w2 in let chains = g.B.Site.sizes.chains in
-    let growth = c.in-Ok.growth in let e = c.in-Ok.ensures in let t = c.tell-left.ensures in let l = c.args.left in let m = c.commit-left.ensures in let first = c.args.first in let size = c.deref_mut.result.now.naming.buckets in let d = c.deref_mut.result.now.naming.directory in let own = c.args.self.now.directory in
+    let growth = c.in-Ok.growth in let e = c.in-Ok.ensures in let t = c.tell-left.ensures in let l = c.args.left in let m = c.commit-left.ensures in let first = c.args.first in let size = c.own_array-place.result.1.naming.buckets in let d = c.own_array-place.result.1.naming.directory in let own = c.args.self.now.directory in
     let entries : List (ℕ × ℕ) = map (λ y. (y.key, y.value)) growth.copied.items in
     let goes : Begins (w.heard w1) log = grows_go q tabled chains d first (vec_len growth.chains) entries log (w.seen w1) (w.heard w1) m.grown.0 in let since : Begins (w.heard wt) log = begins_trans (w.heard wt) (w.heard w1) log e.heard goes in
     let loads = m.same.2 ∙ (e.loads.1 ∙ t.same.1) in
-    let directory : d ≡ own = (λ i. (c.deref_mut.ensures.value i).naming.directory) ∙ (ap (λ (n : Naming). n.directory) c.own_array-array.ensures ∙ c.requires) in
+    let directory : d ≡ own = ap (λ (n : Naming). n.directory) c.own_array-place.ensures ∙ c.requires in
     let grown : (k : Grows q tabled chains own (w.seen w0) (w.heard w0) first c.args.buckets entries log) × (buckets_in (record_of k.left k.old) ≡ size) =
     subst (λ (n : ℕ). (k : Grows q tabled chains n (w.seen w0) (w.heard w0) first c.args.buckets entries log) × (buckets_in (record_of k.left k.old) ≡ size)) directory
     (subst (λ (n : ℕ). (k : Grows q tabled chains d (w.seen w0) (w.heard w0) first n entries log) × (buckets_in (record_of k.left k.old) ≡ size)) e.chains.0

@@ -1,9 +1,13 @@
-use Rattle.rcu_hash.proofs.Cited.{begins_trans, Log, Begins, reserved, tabled, Object, Push, directed_map, LeadsTo, NotesAll, Founds, Writes, words_by, IsUnused, IsAmong, bucket_of, IsRest, LeavesOnly, IsLinked, Each, HasNote, HasNoNote, IsEmpty, HasNothing, Naming, more_made, none_made, one_made, MakesMany, IsAfter, hold_at, Stored, Loaded, cell_in, object_in, payload_in, none_some, BadConfig, Memory, ◌≡◌, ℕ, ◌+◌, ◌≤◌, [], ◌∷◌, ◌∙◌, ◌⊎◌, ◌<◌, ◌++◌, refl, sym, ap, subst, inl, inr, arith, Some, None, map, ⊎_elim, vec_len, rules, err_from_is_err_and, writes_weaker, notes_weaker, looks_both, each_map, pair_from, pair_nothing, during_since, during_earlier, taken_since, place_of, frees_both, but_after, none_after, keeps_one, keeps_none, not_full, only_weaker, only_none, linked_by}
+use Rattle.rcu_hash.proofs.Cited.{begins_trans, Log, Begins, reserved, tabled, Object, Push, directed_map, LeadsTo, NotesAll, Founds, Writes, words_by, IsUnused, IsAmong, bucket_of, IsRest, LeavesOnly, IsLinked, HasNoNote, IsEmpty, HasNothing, Naming, more_made, none_made, one_made, MakesMany, IsAfter, hold_at, Stored, Loaded, cell_in, object_in, payload_in, none_some, BadConfig, Memory, ◌≡◌, ℕ, ◌+◌, ◌≤◌, [], ◌∷◌, ◌∙◌, ◌⊎◌, ◌<◌, ◌++◌, refl, sym, ap, subst, inl, inr, arith, Some, None, map, ⊎_elim, vec_len, rules, err_from_is_err_and, writes_weaker, notes_weaker, looks_both, each_map, during_since, during_earlier, taken_since, place_of, frees_both, but_after, none_after, keeps_one, keeps_none, not_full, only_weaker, only_none, linked_by, HasKeysIn, AreKept, nothing_has_keys}
 use Rattle.rcu_hash.proofs.table.RcuHash.new.Goals as goal
 
 pub returns-in_err-chains-clause-looks : goal.returns-in_err-chains-clause-looks
 returns-in_err-chains-clause-looks g c = let p = err_from_is_err_and c.from_residual-in_err-chains.result c.from_residual-in_err-chains.ensures.1 in let m = c.in_err-chains.ensures.refused in
     let none = not_full g.B.Site.sizes _ [] c.from_residual-in_err-chains.result p.0 Memory p.1 (p.2 ∙ m) (λ z. cc) (λ i. tt) in ([], refl, none.0, none.1)
+
+pub returns-in_err-array-clause-looks : goal.returns-in_err-array-clause-looks
+returns-in_err-array-clause-looks g c = let p = err_from_is_err_and c.from_residual-in_err-array.result c.from_residual-in_err-array.ensures.1 in let m = c.in_err-array.ensures in
+    let none = not_full g.B.Site.sizes _ [] c.from_residual-in_err-array.result p.0 Memory p.1 (p.2 ∙ m) (λ z. cc) (λ i. tt) in ([], refl, none.0, none.1)
 
 pub returns-in_err-own-clause-looks : goal.returns-in_err-own-clause-looks
 returns-in_err-own-clause-looks g c =
@@ -29,6 +33,9 @@ returns-in-Err-clause-looks g c =
     (three.0 ++ (two.0 ++ one.0), looks_both (w.looks c.args.caller.now) (w.looks c.hold_all.new.caller) (w.looks c.alloc.new.caller) (two.0 ++ one.0) three.0 held three.1, tt, none_after g.B.Site.sizes (two.0 ++ one.0) three.0 c.in-Err.refusal (frees_both g.B.Site.sizes one.0 two.0 one.2 two.2) (keeps_none g.B.Site.sizes c.in-Err.refusal three.0 three.2.1))
 
 -- what the caller hears of in a call that is refused comes after all that it had heard of
+pub returns-in_err-array-clause-later : goal.returns-in_err-array-clause-later
+returns-in_err-array-clause-later g c = ([], refl)
+
 pub returns-in_err-chains-clause-later : goal.returns-in_err-chains-clause-later
 returns-in_err-chains-clause-later g c = ([], refl)
 
@@ -55,10 +62,8 @@ pub direct-writer-requires-clause-chains : goal.direct-writer-requires-clause-ch
 direct-writer-requires-clause-chains g c =
     let h = c.in_ok-chains-2.ensures.held in let n = c.reserve_all-owned.ensures.kept in
     let vs = map (λ x. x.seat.me.0) c.in_ok-chains-2.chains.items in let ws = map (λ x. x.seat.me.0) c.reserve_all-owned.result.1.items in (
-      pair_from c.args.first vs ws n.1 h.1,
-      pair_nothing vs ws n.1 (each_map IsEmpty HasNothing (λ v e. e.0) vs h.2),
-      subst (λ r. Each (HasNote (reserved (object_in r))) ws) (sym c.reserve_all-owned.ensures.owned) n.2,
-      n.3,
+      subst (λ o. AreKept c.args.first (reserved (object_in o)) ws) (sym c.reserve_all-owned.ensures.owned) (n.1.from c.args.first h.1, n.3, n.1.keys (each_map IsEmpty HasKeysIn (λ v e. nothing_has_keys v e.0) vs h.2), n.2),
+      n.1.nothing (each_map IsEmpty HasNothing (λ v e. e.0) vs h.2),
     )
 
 pub direct-writer-requires-clause-record : goal.direct-writer-requires-clause-record

@@ -1,44 +1,49 @@
-use Rattle.rcu_hash.proofs.Cited.{begins_trans, has_since, Log, Begins, tabled, CountsLeft, IsRest, IsStopped, chains_in, numbers_of, IsLeft, Uses, IsRecord, IsQueueAmong, Each, lengths_of, rights_of, Naming, OnlyHears, Ghosts, Sizes, object_in, Unlinked, none_some, ◌≡◌, ℕ, [], ◌∙◌, ◌<◌, Bool, List, refl, sym, ap, subst, inl, inr, Option, map, ⊎_elim, option_map, IfSome, rules, Gv, numbers_are, only_both, counts_since, stopped_on, waited_later, heard_on, uses_none, uses_both, some_on, cleared_since, rest_less, rest_none, some_there, not_none, none_so}
+use Rattle.rcu_hash.proofs.Cited.{begins_trans, has_since, Log, Begins, tabled, CountsLeft, IsRest, IsStopped, chains_in, numbers_of, IsLeft, Uses, IsRecord, IsQueueAmong, Each, lengths_of, rights_of, Naming, OnlyHears, Ghosts, Sizes, object_in, Unlinked, none_some, ◌≡◌, ℕ, [], ◌∙◌, ◌<◌, Bool, List, refl, sym, ap, subst, inl, inr, Option, map, ⊎_elim, option_map, IfSome, rules, Gv, numbers_are, only_both, counts_since, stopped_on, waited_later, heard_on, uses_none, uses_both, cleared_since, rest_less, rest_none, some_there, not_none, none_so, IfSome_then}
 use Rattle.rcu_hash.proofs.table.RcuHash.retire_behind.Goals as goal
 
-pub retire_left-answer-requires-clause-waited : goal.retire_left-answer-requires-clause-waited
-retire_left-answer-requires-clause-waited g c =
-    let w = g.W.Caller in let n = c.args.naming in
-    waited_later n.directory n.object (w.heard c.args.caller.now) (w.heard c.tell-left.new.caller) c.tell-left.ensures.heard.after_heard c.requires.waited
-
-pub retire_left-answer-requires-clause-chains : goal.retire_left-answer-requires-clause-chains
-retire_left-answer-requires-clause-chains g c =
-    let l = c.tell-left.result in let vs = map (λ x. x.seat.me.0) l.chains.items in let was : c.take_left-place.result.1.naming ≡ c.args.naming = search rules in let same : l.naming ≡ c.args.naming = c.tell-left.ensures.left.0 ∙ was in (
-      l.some,
-      subst (λ (n : Naming). Each (IsLeft n.directory n.first n.buckets) vs) same l.left,
+pub retire_left-answer-requires : goal.retire_left-answer-requires
+retire_left-answer-requires g c =
+    let w = g.W.Caller in let n = c.args.naming in let l = c.tell-left.result in let vs = map (λ x. x.seat.me.0) l.chains.items in
+    let was : c.take_left-place.result.1.naming ≡ n = search rules in let same : l.naming ≡ n = c.tell-left.ensures.left.0 ∙ was in (
+      search rules,
+      (
+        waited_later n.directory n.object (w.heard c.args.caller.now) (w.heard c.tell-left.new.caller) c.tell-left.ensures.heard.after_heard c.requires.waited,
+        (
+          subst (λ (m : Naming). IfSome l.unlinked (λ u. IsRecord m.directory u.chain u.seat.me.0)) same l.replaced,
+          (l.some, subst (λ (m : Naming). Each (IsLeft m.directory m.first m.buckets) vs) same l.left),
+        ),
+      ),
     )
 
-pub retire_left-answer-requires-clause-record : goal.retire_left-answer-requires-clause-record
-retire_left-answer-requires-clause-record g c =
-    let l = c.tell-left.result in let was : c.take_left-place.result.1.naming ≡ c.args.naming = search rules in let same : l.naming ≡ c.args.naming = c.tell-left.ensures.left.0 ∙ was in
-    subst (λ (n : Naming). IfSome l.unlinked (λ u. IsRecord n.directory u.chain u.seat.me.0)) same l.replaced
-
-pub set_down-old-requires-clause-record : goal.set_down-old-requires-clause-record
-set_down-old-requires-clause-record g c =
-    let l = c.tell-left.result in let n = c.args.naming in let was : c.take_left-place.result.1.naming ≡ n = search rules in let same : l.naming ≡ n = c.tell-left.ensures.left.0 ∙ was in ⊎_elim
-    (λ none. subst (λ (r : Option (Unlinked g.row.B.Denot g.B.Site)). IfSome r (λ u. IsRecord n.directory u.chain u.seat.me.0)) (sym none) tt)
-    (λ kept. subst (λ (r : Option (Unlinked g.row.B.Denot g.B.Site)). IfSome r (λ u. IsRecord n.directory u.chain u.seat.me.0)) (sym kept) (subst (λ (m : Naming). IfSome l.unlinked (λ u. IsRecord m.directory u.chain u.seat.me.0)) same l.replaced))
-    c.retire_left-answer.ensures.kept
-
 -- what is left is what was, but for what was cleared and retired since
-pub set_down-old-requires-clause-rest : goal.set_down-old-requires-clause-rest
-set_down-old-requires-clause-rest g c log b run linked =
-    let q = g.P.GracePlan.QSBR in let w = g.W.Caller in let n = c.args.naming in let t = c.tell-left.ensures in let old = c.take_left-place.result.1 in let l = c.tell-left.result in let r = c.retire_left-answer.ensures in
-    let w1 : Log = w.heard c.tell-left.new.caller in let w2 : Log = w.heard c.retire_left-answer.new.caller in
-    let was : old.naming ≡ n = search rules in
-    let goes : Begins w1 log = begins_trans w1 w2 log (heard_on q tabled g.B.Site.sizes n.directory (w.seen c.tell-left.new.caller) w1 w1 w2 r.uses.steps ([], refl) r.uses.follow) b in
-    let first = subst (λ ch. IsRest old.naming.directory old.naming.object (map (λ x. x.seat.me.0) ch.items) (option_map (λ u. object_in u.seat.me.0.object) old.unlinked) w1) (sym t.left.1) t.rest in
-    let second = subst (λ un. IsRest old.naming.directory old.naming.object (map (λ x. x.seat.me.0) l.chains.items) (option_map (λ u. object_in u.seat.me.0.object) un) w1) (sym t.left.2) first in
-    let known = subst (λ (m : Naming). IsRest m.directory m.object (map (λ x. x.seat.me.0) l.chains.items) (option_map (λ u. object_in u.seat.me.0.object) l.unlinked) w1) was second in
-    rest_less q n.directory n.object (map (λ x. x.seat.me.0) l.chains.items) _ (option_map (λ u. object_in u.seat.me.0.object) l.unlinked) _ w1 log goes run linked r.row
-    (λ p is. ⊎_elim (λ none. absurd (none_some p (sym (ap (option_map (λ u. object_in u.seat.me.0.object)) none) ∙ is))) (λ same. sym (ap (option_map (λ u. object_in u.seat.me.0.object)) same) ∙ is) r.kept)
-    (λ k h. ⊎_elim (λ z. inl (cleared_since w1 w2 log k b z)) (λ kept. inr kept) (r.cleared k h))
-    (λ p is. ⊎_elim (λ z. inl (has_since _ w2 log b z)) (λ kept. inr kept) (r.told p is)) known
+pub set_down-old-requires : goal.set_down-old-requires
+set_down-old-requires g c =
+    let l = c.tell-left.result in let n = c.args.naming in let was : c.take_left-place.result.1.naming ≡ n = search rules in let same : l.naming ≡ n = c.tell-left.ensures.left.0 ∙ was in (
+      search rules,
+      (
+        search rules,
+        (
+          ⊎_elim
+              (λ none. subst (λ (r : Option (Unlinked g.row.B.Denot g.B.Site)). IfSome r (λ u. IsRecord n.directory u.chain u.seat.me.0)) (sym none) tt)
+              (λ kept. subst (λ (r : Option (Unlinked g.row.B.Denot g.B.Site)). IfSome r (λ u. IsRecord n.directory u.chain u.seat.me.0)) (sym kept) (subst (λ (m : Naming). IfSome l.unlinked (λ u. IsRecord m.directory u.chain u.seat.me.0)) same l.replaced))
+              c.retire_left-answer.ensures.kept,
+          (
+            search rules,
+            λ log b run linked.
+                let q = g.P.GracePlan.QSBR in let w = g.W.Caller in let t = c.tell-left.ensures in let old = c.take_left-place.result.1 in let r = c.retire_left-answer.ensures in
+                let w1 : Log = w.heard c.tell-left.new.caller in let w2 : Log = w.heard c.retire_left-answer.new.caller in
+                let goes : Begins w1 log = begins_trans w1 w2 log (heard_on q tabled g.B.Site.sizes n.directory (w.seen c.tell-left.new.caller) w1 w1 w2 r.uses.steps ([], refl) r.uses.follow) b in
+                let first = subst (λ ch. IsRest old.naming.directory old.naming.object (map (λ x. x.seat.me.0) ch.items) (option_map (λ u. object_in u.seat.me.0.object) old.unlinked) w1) (sym t.left.1) t.rest in
+                let second = subst (λ un. IsRest old.naming.directory old.naming.object (map (λ x. x.seat.me.0) l.chains.items) (option_map (λ u. object_in u.seat.me.0.object) un) w1) (sym t.left.2) first in
+                let known = subst (λ (m : Naming). IsRest m.directory m.object (map (λ x. x.seat.me.0) l.chains.items) (option_map (λ u. object_in u.seat.me.0.object) l.unlinked) w1) was second in
+                rest_less q n.directory n.object (map (λ x. x.seat.me.0) l.chains.items) _ (option_map (λ u. object_in u.seat.me.0.object) l.unlinked) _ w1 log goes run linked r.row
+                (λ p is. ⊎_elim (λ none. absurd (none_some p (sym (ap (option_map (λ u. object_in u.seat.me.0.object)) none) ∙ is))) (λ same. sym (ap (option_map (λ u. object_in u.seat.me.0.object)) same) ∙ is) r.kept)
+                (λ k h. ⊎_elim (λ z. inl (cleared_since w1 w2 log k b z)) (λ kept. inr kept) (r.cleared k h))
+                (λ p is. ⊎_elim (λ z. inl (has_since _ w2 log b z)) (λ kept. inr kept) (r.told p is)) known,
+          ),
+        ),
+      ),
+    )
 
 -- what it used, between what the caller heard of before it and after it
 used : {D W S : Type 0} (w : Ghosts W S) (code : D → Gv) (q : Bool) (sizes : Sizes) (d : ℕ) (w0 w1 w2 w4 : W) (jobs left : List D) → OnlyHears w w0 w1 → Begins (w.heard w0) (w.heard w1) → Uses q tabled sizes d (w.seen w1) w code w1 w2 jobs left (w.heard w1) (w.heard w2) → OnlyHears w w2 w4 → Begins (w.heard w2) (w.heard w4) → Uses q tabled sizes d (w.seen w0) w code w0 w4 jobs left (w.heard w0) (w.heard w4)
@@ -78,11 +83,11 @@ returns-clause-stopped g c =
     let numbers : chains_in (map (λ x. x.seat.me.0) c.retire_left-answer.new.chains.items) ≡ numbers_of chains = sym (numbers_are (map (λ x. x.seat.me.0) c.set_down-old.result.chains.items) ∙ ap (λ v. chains_in (map (λ x. x.seat.me.0) v.items)) o.1) in
     let counted = counts_since w q tabled w0 w3 w4 n.directory chains c.count-old.result.1 seen goes (subst (λ (m : Naming). CountsLeft w q tabled w3 w4 m.directory chains c.count-old.result.1) o.0 k.counted) in
     let stops = stopped_on w q tabled w2 w4 _ c.retire_left-answer.new.jobs.items c.in-Err.refusal on k.heard.run (subst (λ (cs : List ℕ). IsStopped w w2 (IsQueueAmong sizes n.directory cs) c.retire_left-answer.new.jobs.items c.in-Err.refusal) numbers c.in-Err.ensures.stopped.1) in
-    some_on c.stopped.result.stop _ _ (λ e h. (
+    IfSome_then c.stopped.result.stop d.4 (λ e h. (
       subst (λ (m : ℕ). 0 < m) (sym d.1) h.1,
       (
         chains,
         subst (CountsLeft w q tabled w0 w4 n.directory chains) (sym d.1) counted,
         subst (λ (v : _). IsStopped w w4 (IsQueueAmong sizes n.directory (numbers_of chains)) v.items e) (sym d.2) (subst (IsStopped w w4 (IsQueueAmong sizes n.directory (numbers_of chains)) c.retire_left-answer.new.jobs.items) (sym h.0) stops),
       ),
-    )) d.4
+    ))

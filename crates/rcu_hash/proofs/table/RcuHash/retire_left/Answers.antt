@@ -1,4 +1,4 @@
-use Rattle.rcu_hash.proofs.Cited.{begins_trans, has_since, Log, Begins, Has, tabled, Object, Retire, Uses, WasCleared, if_ok, [], ◌<◌, refl, subst, inl, inr, arith, ⊎_elim, IsSome, vec_len, err_from_is_err_and, stopped_for, waited_later, finds_both, heard_on, uses_both, err_on, objects_some, not_none}
+use Rattle.rcu_hash.proofs.Cited.{begins_trans, has_since, Log, Begins, Has, tabled, Object, Retire, Uses, WasCleared, if_ok, [], ◌<◌, refl, subst, inl, inr, arith, ⊎_elim, IsSome, vec_len, err_from_is_err_and, stopped_for, waited_later, finds_both, heard_on, uses_both, IfErr-weaker, objects_some, not_none}
 use Rattle.rcu_hash.proofs.table.RcuHash.retire_left.Goals as goal
 
 pub returns-in_err-retire_record-clause-uses : goal.returns-in_err-retire_record-clause-uses
@@ -35,10 +35,10 @@ returns g c =
           (λ kept. inr kept)
           (e.cleared k h);
       done = if_ok c.clear_all.result _ _ _ (λ x none z. (none, c.in_ok-retire_record.ensures.retired)) e.emptied e.emptied;
-      chains = (err_on c.clear_all.result _ (λ x. 0 < vec_len chains) (λ x k. let some = objects_some chains.items (λ y. y.seat.me.0) k.0 in omega (arith, some, chains.ok)) e.stopped, e.chains);
+      chains = (IfErr-weaker c.clear_all.result _ (λ x. 0 < vec_len chains) (λ x k. let some = objects_some chains.items (λ y. y.seat.me.0) k.0 in omega (arith, some, chains.ok)) e.stopped, e.chains);
       uses = uses_both q tabled sizes d (w.seen w0) w code w0 w1 w2 jobs mid left (w.heard w0) (w.heard w1) (w.heard w2) (r.uses d c.requires.record)
           (subst (λ (seen : Log). Uses q tabled sizes d seen w code w1 w2 mid left (w.heard w1) (w.heard w2)) r.changes.0 u);
       row = e.row;
-      stopped = err_on c.clear_all.result _ _ (λ x k. (inr k.0, stopped_for w w2 _ _ left x (λ z one. inr one) k.1)) e.stopped;
+      stopped = IfErr-weaker c.clear_all.result _ _ (λ x k. (inr k.0, stopped_for w w2 _ _ left x (λ z one. inr one) k.1)) e.stopped;
       same = finds_both w w0 w1 w2 r.same e.same;
     }

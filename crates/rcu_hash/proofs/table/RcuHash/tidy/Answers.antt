@@ -1,4 +1,4 @@
-use Rattle.rcu_hash.proofs.Cited.{begins_trans, Log, Begins, tabled, CountsLeft, IsStopped, numbers_of, Uses, IsTidied, IsQueueAmong, stays_both, LoadedOnce, Synchronized, FindsNothing, Look, ◌≡◌, ℕ, [], ◌∷◌, ◌∙◌, ◌<◌, ◌++◌, List, refl, sym, ap, subst, inl, inr, append_assoc, IfNone, append-nil, counts_since, heard_on, uses_none, uses_both, some_on, ended_since, loaded_since}
+use Rattle.rcu_hash.proofs.Cited.{begins_trans, Log, Begins, tabled, CountsLeft, IsStopped, numbers_of, Uses, IsTidied, IsQueueAmong, stays_both, LoadedOnce, Synchronized, FindsNothing, Look, ◌≡◌, ℕ, [], ◌∷◌, ◌∙◌, ◌<◌, ◌++◌, List, refl, sym, ap, subst, inl, inr, append_assoc, IfNone, append-nil, counts_since, heard_on, uses_none, uses_both, ended_since, loaded_since, IfSome_then}
 use Rattle.rcu_hash.proofs.table.RcuHash.tidy.Goals as goal
 
 pub returns-in_default-clause-heard : goal.returns-in_default-clause-heard
@@ -57,14 +57,14 @@ returns-then-left-gt0-clause-stopped g c =
     let stays = stays_both w w0 w1 w3 i.same.0 (stays_both w w1 w2 w3 h.same.0.0 c.in-Err.ensures.caller.0) in
     let counted = counts_since w q tabled w0 w3 w4 n m.counted.0 c.count_left-left.result stays.0 (begins_trans (w.heard w0) (w.heard w2) (w.heard w3) heard r.1.after.after_heard) m.counted.1 in
     let loaded = loaded_since q tabled (w.seen w0) (w.heard w0) (w.seen w2) (w.heard w2) (w.loads w0) (w.loads w2) i.waits.0 (w.loads w3) (w.heard w3) seen heard (h.same.1 ∙ i.waits.1) r.1 in
-    some_on c.stopped.result.stop _ _ (λ e k. (
+    IfSome_then c.stopped.result.stop d.4 (λ e k. (
       subst (λ (n : ℕ). 0 < n) (sym d.1) k.1,
       (
         m.counted.0,
         subst (CountsLeft w q tabled w0 w4 n m.counted.0) (sym d.1) counted,
         inl (k.0 ∙ r.0, d.0, (w.heard w3, i.waits.0, subst (λ (ls : List Log). LoadedOnce q tabled (w.seen w0) (w.heard w0) (i.waits.0 ++ w.loads w0) ls (w.heard w3)) (sym m.same.1) loaded, r.2, m.heard.after_heard, m.heard.run)),
       ),
-    )) d.4
+    ))
 
 pub returns-then-left-gt0-clause-heard : goal.returns-then-left-gt0-clause-heard
 returns-then-left-gt0-clause-heard g c =
@@ -99,14 +99,14 @@ returns-in-Ok g c =
             (subst (λ (l : Log). Uses q tabled sizes d l w code w3 w4 jobs left (w.heard w3) (w.heard w4)) stays.0 rest);
       });
       done = subst (λ (n : ℕ). IfNone end.stop ((end.left ≡ 0) × IsTidied n (w.heard w4))) its e.done;
-      stopped = some_on end.stop _ _ (λ x t. (
+      stopped = IfSome_then end.stop e.stopped (λ x t. (
         t.0,
         (
           t.1.0,
           counts_since w q tabled w0 w3 w4 d t.1.0 end.left stays.0 (begins_trans (w.heard w0) (w.heard w2) (w.heard w3) heard goes) (subst (λ (n : ℕ). CountsLeft w q tabled w3 w4 n t.1.0 end.left) its t.1.1),
           inr (subst (λ (n : ℕ). IsStopped w w4 (IsQueueAmong sizes n (numbers_of t.1.0)) left x) its t.1.2),
         ),
-      )) e.stopped;
+      ));
       heard = record { after_seen = begins_trans (w.seen w0) (w.heard w2) (w.heard w4) seen on; after_heard = begins_trans (w.heard w0) (w.heard w2) (w.heard w4) heard on; run = e.heard };
       same = (r.1.0, r.1.1 ∙ ap (λ (l : List Look). r.1.0 ++ l) found);
     }
