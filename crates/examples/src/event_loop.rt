@@ -31,8 +31,7 @@ fn turns<B: Site>(
         }
         reader.quiescent()?;
     }
-    reader.offline()?;
-    Ok(found)
+    reader.offline().map(|()| found)
 }
 
 /// A loop, and a grace period once it is offline, which waits for nobody.
@@ -52,6 +51,9 @@ impl<R: Wait> Program<Qsbr, AnyChain, NoCallback, R> for EventLoop {
         let current = Slot::new(domain, 0, 7)?;
         let mut reader = domain.register(rt, &mut own)?;
         let found = turns(&current, &mut reader);
+        if let Err((refusal, _)) = reader.unregister(&mut own) {
+            return Err(refusal);
+        }
         domain.synchronize(rt, &mut own)?;
         found
     }

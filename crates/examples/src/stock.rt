@@ -40,6 +40,10 @@ impl<R: Wait> Program<Memb, Tabled, Reclaim<NoCallback>, R> for Stock {
                 all = all.saturating_add(pieces);
             },
         );
+        section.close();
+        if let Err((refusal, _)) = reader.unregister(&mut own) {
+            return Err(refusal);
+        }
         Ok((goods, all))
     }
 }

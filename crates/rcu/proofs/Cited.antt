@@ -12,10 +12,12 @@ pub use Rattle.rcu_hash.proofs.live_read.Lemmas.{looks_twice, more_made, none_ma
 pub use Rattle.rcu_hash.proofs.rcu_list.Lemmas.{gives_back}
 pub use Rattle.rcu_hash.specs.Calls.{IsGrown, IsNotGrown}
 pub use Rattle.rcu_hash.specs.Growing.{HasLeft}
-pub use Rattle.rcu_hash.specs.Publishing.{InsertsThrough, RemovesThrough, ReplacesThrough}
 pub use Rattle.rcu_hash.specs.Refusing.{During, RefusesInsertionThrough, RefusesReplacementThrough}
 pub use Rattle.rcu_hash.specs.Tidying.{EndsTidying, FindsEnd, Follow, IsQueueAmong, IsRefused, LinksStill, StopsTidying, callbacks_in, changes_in, numbers_of}
 pub use Rattle.rcu_hash.specs.Writers.{Each}
+pub use Rattle.rcu_hash.specs.domain.Working.{HasWorkedFor}
+pub use Rattle.rcu_hash.specs.domain.callback_queue.declared.item.Ripe.{Ripe}
+pub use Rattle.rcu_hash.specs.domain.declared.worker_end.Stop.{Stop}
 pub use Rattle.rcu_hash.specs.declared.tidying.TidyEnd.{TidyEnd}
 pub use Rattle.rcu_hash.specs.live_callbacks.Refusing.{RefusesRetirement}
 pub use Rattle.rcu_hash.specs.live_callbacks.Retiring.{Queues}

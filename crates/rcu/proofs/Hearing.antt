@@ -20,3 +20,7 @@ Went w qsbr allows a b = (w.seen b ≡ w.seen a) × IsAfter qsbr allows (w.seen 
 -- so after one call and another
 pub went_on : {W S : Type 0} (w : Ghosts W S) (qsbr : Bool) (allows : Log → LiveEvent → Type 0) (a b c : W) → Went w qsbr allows a b → Went w qsbr allows b c → Went w qsbr allows a c
 went_on w qsbr allows a b c p q = (q.0 ∙ p.0, still_after qsbr allows (w.seen a) (w.heard a) (w.seen b) (w.heard b) (w.heard c) p.0 p.1.after_heard q.1)
+
+-- who hears of what is known still hears of it in what it hears of later
+pub still_known : {was known mid new : Log} → known ≡ was → Begins known mid → Begins mid new → Begins was new
+still_known {was} {known} {mid} {new} is told later = begins_trans was mid new (subst (λ (s : Log). Begins s mid) is told) later

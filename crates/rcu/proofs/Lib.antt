@@ -1,9 +1,9 @@
 mod Cited
-pub mod Giving
 pub mod Hearing
 pub mod Moving
 pub mod Once
 pub mod Putting
 pub mod Refused
 pub mod Standing
+pub mod Stopping
 pub mod Walking

@@ -1,7 +1,7 @@
 -- What a caller has heard of where a call of a table was refused.
-use Rattle.rcu.proofs.Cited.{◌≡◌, ◌⊎◌, ◌++◌, ◌∷◌, [], ◌∙◌, Bool, List, Option, None, Some, IfNone, ℕ, ⊎_elim, ap, append_assoc, inl, inr, refl, subst, sym, Refusal, Exists, Missing, LiveEvent, Log, Begins, tabled, begins_trans, Look, Sizes, Ghosts, RefusesRetirement, During, RefusesInsertionThrough, RefusesReplacementThrough}
-use Rattle.rcu.specs.Slots.{IsNotPut}
-use Rattle.rcu.specs.Trying.{StaysOn}
+use Rattle.rcu.proofs.Cited.{◌≡◌, ◌⊎◌, ◌++◌, ◌∷◌, [], ◌∙◌, Bool, List, Option, None, Some, IfNone, ℕ, ⊎_elim, ap, append_assoc, inl, inr, refl, subst, sym, Refusal, Busy, Exists, Missing, PoolFull, LiveEvent, Log, Begins, tabled, begins_trans, Look, Sizes, Stays, Ghosts, RefusesRetirement, During, RefusesInsertionThrough, RefusesReplacementThrough}
+use Rattle.rcu.specs.Slots.{FoundInVain, IsNotPut, TriesInVain}
+use Rattle.rcu.specs.Trying.{HearsOn, StaysOn, all_found}
 use Rattle.rcu.proofs.Hearing.{Went, stays_on, went_on}
 
 -- nothing was tried yet
@@ -24,27 +24,55 @@ goes_on w a b c p q = (
 pub more_found : (ls old new : List Look) (x a b c : Look) → new ≡ x ∷ (ls ++ (a ∷ b ∷ c ∷ old)) → (found : List Look) × (new ≡ found ++ old)
 more_found ls old new x a b c is = (x ∷ (ls ++ (a ∷ b ∷ c ∷ [])), is ∙ ap (λ l. x ∷ l) (sym (append_assoc ls (a ∷ b ∷ c ∷ []) old)))
 
+-- a caller for which nothing was done yet
+pub hears_none : {W S : Type 0} (w : Ghosts W S) (a : W) → HearsOn w a a
+hears_none w a = ((((refl, refl, λ h. h, refl), refl), refl), ([], refl))
+
+-- nor in one call and in the next
+pub hears_both : {W S : Type 0} (w : Ghosts W S) (a b c : W) → HearsOn w a b → HearsOn w b c → HearsOn w a c
+hears_both w a b c p q = (((stays_on w a b c p.0.0.0 q.0.0.0, q.0.0.1 ∙ p.0.0.1), q.0.1 ∙ p.0.1), begins_trans (w.heard a) (w.heard b) (w.heard c) p.1 q.1)
+
+-- what one try found that was in vain
+abbrev pub InVain : {W S : Type 0} → Ghosts W S → Sizes → ℕ → W → W → Type 0
+InVain w sizes c old new = (found : List Look) × (w.looks new ≡ found ++ w.looks old) × FoundInVain sizes c found × (w.loads new ≡ w.loads old)
+
+-- nothing was tried for a slot yet
+pub tries_none : {W S : Type 0} (w : Ghosts W S) (sizes : Sizes) (c : ℕ) (a : W) → TriesInVain w sizes c a a
+tries_none w sizes c a = record { stays = (refl, refl, λ h. h, refl); later = ([], refl); tries = []; vain = tt; looks = refl; loads = refl }
+
+-- after tries in vain one more was in vain
+pub tries_more : {W S : Type 0} (w : Ghosts W S) (sizes : Sizes) (c : ℕ) (old was new : W) → TriesInVain w sizes c old was → Stays w was new → Begins (w.heard was) (w.heard new) → InVain w sizes c was new → TriesInVain w sizes c old new
+tries_more w sizes c old was new t stays later v = record {
+  stays = stays_on w old was new t.stays stays;
+  later = begins_trans (w.heard old) (w.heard was) (w.heard new) t.later later;
+  tries = v.0 ∷ t.tries;
+  vain = (v.2, t.vain);
+  looks = v.1 ∙ ap (λ ls. v.0 ++ ls) t.looks ∙ sym (append_assoc v.0 (all_found t.tries) (w.looks old));
+  loads = v.3 ∙ t.loads;
+}
+
 module _ {W S : Type 0} (w : Ghosts W S) (qsbr : Bool) (sizes : Sizes) (old new : W) (e : Refusal) where
   during : (is_so : Log → Type 0) → During w qsbr tabled old new is_so → Begins (w.heard old) (w.heard new)
   during is_so d = begins_trans (w.heard old) d.at (w.heard new) d.after.after_heard d.before
 
   -- where the key had no value
-  pub missing : (d key : ℕ) → e ≡ Missing → RefusesReplacementThrough w qsbr tabled sizes old new e d key → StaysOn w old new
-  missing d key is (inl r) = (r.2.0.0, during _ r.1, ([], r.2.0.1))
+  pub missing : (d key : ℕ) → e ≡ Missing → RefusesReplacementThrough w qsbr tabled sizes old new e d key → HearsOn w old new
+  missing d key is (inl r) = (r.2, during _ r.1)
   missing d key is (inr (c, had, inl f)) = let no = sym is ∙ f.is in absurd (cc)
   missing d key is (inr (c, had, inr g)) = ⊎_elim (λ r. let no = sym is ∙ r.0 in absurd (cc)) (λ r. let no = sym is ∙ r.0 in absurd (cc)) g.why
 
   -- where it had one
-  pub exists : (d key : ℕ) → e ≡ Exists → RefusesInsertionThrough w qsbr tabled sizes old new e d key → StaysOn w old new
-  exists d key is (inl r) = (r.2.0.0, during _ r.1.1, ([], r.2.0.1))
+  pub exists : (d key : ℕ) → e ≡ Exists → RefusesInsertionThrough w qsbr tabled sizes old new e d key → HearsOn w old new
+  exists d key is (inl r) = (r.2, during _ r.1.1)
   exists d key is (inr (lacked, inl r)) = let no = sym is ∙ r.0 in absurd (cc)
   exists d key is (inr (lacked, inr f)) = let no = sym is ∙ f.is in absurd (cc)
 
-  -- where nothing was put into a slot
-  pub put_found : (c : ℕ) → IsNotPut w qsbr old new sizes c e → (found : List Look) × (w.looks new ≡ found ++ w.looks old)
-  put_found c (inl r) = (_ ∷ [], r.1)
-  put_found c (inr (mid, held, inl f)) = both_found (w.looks old) (w.looks mid) (w.looks new) (_ ∷ _ ∷ [], held.looks) (f.found, f.looks)
-  put_found c (inr (mid, held, inr g)) = both_found (w.looks old) (w.looks mid) (w.looks new) (_ ∷ _ ∷ [], held.looks) (_ ∷ _ ∷ g.found, g.looks)
+  -- where nothing was put into a slot, but not for its queue
+  pub in_vain : (c : ℕ) → (e ≡ Busy) ⊎ (e ≡ PoolFull) → IsNotPut w qsbr old new sizes c e → InVain w sizes c old new
+  in_vain c is (inl r) = (_ ∷ [], r.1.0, inl refl, r.1.1)
+  in_vain c is (inr (mid, held, inl f)) = (f.found ++ (_ ∷ _ ∷ []), f.looks ∙ ap (λ ls. f.found ++ ls) held.looks ∙ sym (append_assoc f.found (_ ∷ _ ∷ []) (w.looks old)), inr (f.found, refl, f.why), f.same.1 ∙ held.loads)
+  in_vain c (inl busy) (inr (mid, held, inr g)) = ⊎_elim (λ r. let no = sym busy ∙ r.0 in absurd (cc)) (λ r. let no = sym busy ∙ r.0 in absurd (cc)) g.why
+  in_vain c (inr full) (inr (mid, held, inr g)) = ⊎_elim (λ r. let no = sym full ∙ r.0 in absurd (cc)) (λ r. let no = sym full ∙ r.0 in absurd (cc)) g.why
 
 -- a retirement that was refused, for the one reason or the other
 pub went_refused : {W S P Q R : Type 0} (w : Ghosts W S) (qsbr : Bool) (allows : Log → LiveEvent → Type 0) {sizes : Sizes} {queue : ℕ} {e : Refusal} (a b c : W) → Went w qsbr allows a b → (P × Q × (c ≡ b)) ⊎ (R × RefusesRetirement w qsbr allows sizes queue b c e) → Went w qsbr allows a c

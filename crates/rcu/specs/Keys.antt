@@ -2,12 +2,8 @@
 use base.Stored.{Gv}
 use denote.RattleType.{RattleType}
 use Rattle.gp_memb.specs.declared.plan.GracePlan as plan
-use Rattle.std.specs.Prelude.{◌≡◌, ◌⊎◌, ◌%◌, ℕ, Bool, List, Option, Some, None}
-use Rattle.rcu_model.specs.declared.event.ObjectId.{ObjectId}
+use Rattle.std.specs.Prelude.{◌≡◌, ◌⊎◌, ℕ, Bool, Option, Some, None}
 use Rattle.rcu_model.specs.declared.refusal.Refusal.{Refusal}
-use Rattle.live_log.specs.declared.event.LiveEvent.{LiveEvent}
-use Rattle.live_log.specs.declared.event.LiveEvent.TheVariants.{Object}
-use Rattle.live_log.specs.declared.event.ObjectEvent.TheVariants.{Cut, Replace}
 use Rattle.live_log.specs.Log.{Log, Begins}
 use Rattle.live_log.specs.Tables.{tabled}
 use Rattle.rcu_hash.specs.live_read.Hearing.{MakesLast}
@@ -15,12 +11,12 @@ use Rattle.rcu_hash.specs.live_read.Holding.{log_of}
 use Rattle.rcu_hash.specs.live_read.declared.reader_core.ReaderCore.{ReaderCore}
 use Rattle.rcu_hash.specs.live_read.declared.caller.Caller.{Ghosts}
 use Rattle.rcu_hash.specs.live_rule.declared.view.Sizes.{Sizes}
-use Rattle.rcu_hash.specs.rcu_list.Calls.{HandsOver}
+use Rattle.rcu_hash.specs.rcu_list.Calls.{TakesOneRecord}
+use Rattle.rcu_hash.specs.Calls.{IsInsertedThrough, IsRemovedThrough, IsReplacedThrough}
 use Rattle.rcu_hash.specs.Directories.{VisitsTable, directed_map}
-use Rattle.rcu_hash.specs.Publishing.{ChangesThrough}
 use Rattle.rcu_hash.specs.Refusing.{RefusesInsertionThrough, RefusesReplacementThrough}
 use Rattle.rcu.specs.Reclaiming.{gone_code}
-use Rattle.rcu.specs.Trying.{StaysOn}
+use Rattle.rcu.specs.Trying.{HearsOn}
 
 -- the value that comes of this word
 abbrev pub HasWord : {T : Type 0} → (T → ℕ) → ℕ → T → Type 0
@@ -48,28 +44,27 @@ GetsValue packed chains d r s key found = Gets packed chains d (log_of r) r.seat
 abbrev pub Walks : {T F P K : Type 0} {g : plan.Ghosts P} → (T → ℕ) → ℕ → ℕ → ReaderCore P K g → ReaderCore P K g → (F → ℕ → T → F → Type 0) → F → F → Type 0
 Walks packed chains d r s called = VisitsTable r s chains d (λ f e h. (x : _) × HasWord packed e.1 x × called f e.0 x h)
 
--- by this event the object left its chain
-abbrev pub Unlinks : LiveEvent → ObjectId → Type 0
-Unlinks event left = ((c : ℕ) × (event ≡ Object (Cut c left))) ⊎ ((c : ℕ) × (o : ObjectId) × (cell : ℕ) × (payload : List ℕ) × (event ≡ Object (Replace c left o cell payload)))
+-- between these two moments of a caller, of a key of the map whose directory is in chain d
+module _ {W S : Type 0} (w : Ghosts W S) (qsbr : Bool) (sizes : Sizes) (d : ℕ) (old new : W) (key : ℕ) where
+  -- it had no value and has this one, in the one record that was taken
+  abbrev pub AddsKey : ℕ → Type 0
+  AddsKey value = IsInsertedThrough w qsbr sizes old new d key value × MakesLast w old new (w.heard new) × TakesOneRecord w old new sizes
 
--- Between these two moments of a caller the key has this word from the last event of a log on, or none, and each other
--- key what it had before the event. That came after all that the caller had seen and heard of, the caller has heard of
--- it, and no other change of a chain was made for it. A record that had the key's value before left its chain by the
--- event. It was retired then, with the callback of this code, in one of this many queues.
-pub record GivesWord {W S : Type 0} (w : Ghosts W S) (qsbr : Bool) (chains queues d : ℕ) (old new : W) (key : ℕ) (has : Option ℕ) (callback : Gv) : Type 0 where
-  pub published : Log
-  pub chain : ℕ
-  pub event : LiveEvent
-  pub had : Option ℕ
-  pub changes : ChangesThrough qsbr tabled chains d (w.seen old) (w.heard old) chain event key had has published
-  pub told : Begins published (w.heard new)
-  pub made : MakesLast w old new published
-  pub retired : (h : ℕ) → had ≡ Some h → (left : ObjectId) × (ticket : ℕ) × Unlinks event left × HandsOver qsbr tabled left (chain % queues) ticket callback published (w.heard new)
+  -- It has this one in place of another, in the one record that was taken. The other's record is retired with the
+  -- callback of this code.
+  abbrev pub ReplacesKey : ℕ → Gv → Type 0
+  ReplacesKey value callback = ((ticket : ℕ) × IsReplacedThrough w qsbr sizes old new d key value ticket callback) × TakesOneRecord w old new sizes
 
--- The key got no value at the last of several tries: a replacement or an insertion was refused.
+-- The key has this value by the last of several tries, and the record of an older one is retired with the map's deleter.
+-- In the tries before nothing was done or found for the caller.
+abbrev pub SetsKey : {W S : Type 0} → Ghosts W S → Bool → Sizes → ℕ → W → W → ℕ → ℕ → (R : RattleType) → R.Denot → Type 0
+SetsKey {W} w qsbr sizes d old new key value R deleter = (last : W) × HearsOn w old last × (AddsKey w qsbr sizes d last new key value ⊎ ReplacesKey w qsbr sizes d last new key value (gone_code R deleter))
+
+-- The key got no value at the last of several tries: a replacement or an insertion was refused. In the tries before
+-- nothing was done or found for the caller.
 abbrev pub IsNotSet : {W S : Type 0} → Ghosts W S → Bool → Sizes → ℕ → W → W → ℕ → Refusal → Type 0
-IsNotSet {W} w qsbr sizes d old new key e = (last : W) × StaysOn w old last × (RefusesReplacementThrough w qsbr tabled sizes last new e d key ⊎ RefusesInsertionThrough w qsbr tabled sizes last new e d key)
+IsNotSet {W} w qsbr sizes d old new key e = (last : W) × HearsOn w old last × (RefusesReplacementThrough w qsbr tabled sizes last new e d key ⊎ RefusesInsertionThrough w qsbr tabled sizes last new e d key)
 
--- The key has this word or none, and what had its value before is retired with the map's deleter.
-abbrev pub ChangesKey : {W S : Type 0} → Ghosts W S → Bool → Sizes → ℕ → W → W → ℕ → Option ℕ → (R : RattleType) → R.Denot → Type 0
-ChangesKey w qsbr sizes d old new key has R deleter = GivesWord w qsbr sizes.chains sizes.queues d old new key has (gone_code R deleter)
+-- The key had a value and has none, and its record is retired with the map's deleter.
+abbrev pub RemovesKey : {W S : Type 0} → Ghosts W S → Bool → Sizes → ℕ → W → W → ℕ → (R : RattleType) → R.Denot → Type 0
+RemovesKey w qsbr sizes d old new key R deleter = (ticket : ℕ) × IsRemovedThrough w qsbr sizes old new d key ticket (gone_code R deleter)

@@ -2,7 +2,7 @@
 use base.Stored.{Gv}
 use denote.RattleType.{RattleType}
 use Rattle.gp_memb.specs.declared.plan.GracePlan as plan
-use Rattle.std.specs.Prelude.{◌≡◌, ◌⊎◌, ◌%◌, ◌∷◌, ℕ, Bool, List, Some, None}
+use Rattle.std.specs.Prelude.{◌≡◌, ◌⊎◌, ◌%◌, ◌++◌, [], ◌∷◌, ℕ, Bool, List, Some, None}
 use Rattle.rcu_model.specs.declared.event.ObjectId.{ObjectId}
 use Rattle.rcu_model.specs.Sets.{first_of}
 use Rattle.rcu_model.specs.declared.refusal.Refusal.{Refusal}
@@ -16,11 +16,14 @@ use Rattle.rcu_hash.specs.live_read.Holding.{log_of}
 use Rattle.rcu_hash.specs.live_read.declared.reader_core.ReaderCore.{ReaderCore}
 use Rattle.rcu_hash.specs.live_read.declared.caller.Caller.{Ghosts}
 use Rattle.rcu_hash.specs.live_rule.Places.{hold_at}
+use Rattle.rcu_hash.specs.live_rule.declared.view.Look.{Look}
 use Rattle.rcu_hash.specs.live_rule.declared.view.Look.TheVariants.{Loaded, Stored}
 use Rattle.rcu_hash.specs.live_rule.declared.view.Sizes.{Sizes}
-use Rattle.rcu_hash.specs.rcu_list.Calls.{HandsOver}
+use Rattle.rcu_hash.specs.live_write.Searching.{GetsNoRecord}
+use Rattle.rcu_hash.specs.rcu_list.Calls.{HandsOver, TakesOneRecord}
 use Rattle.rcu_hash.specs.rcu_list.Refusing.{FindsNoRecord, GivesBack}
-use Rattle.rcu.specs.Trying.{StaysOn}
+use Rattle.rcu_hash.specs.Writers.{Each}
+use Rattle.rcu.specs.Trying.{all_found}
 
 -- the rule of chains that any change fits
 abbrev pub any_change : Log → LiveEvent → Type 0
@@ -94,13 +97,39 @@ module _ {W S : Type 0} (w : Ghosts W S) (qsbr : Bool) (old new : W) where
     pub stays : Stays w old mid
     pub later : Begins (w.heard old) (w.heard mid)
 
+  -- It was held, and then one record was taken for the caller.
+  abbrev pub HoldsAndTakes : Sizes → ℕ → Type 0
+  HoldsAndTakes sizes c = (mid : W) × HoldsSlot sizes c mid × TakesOneRecord w mid new sizes
+
+  -- Its hold word was found to be 1, and nothing else was found or loaded.
+  abbrev pub FindsHeld : Sizes → ℕ → Type 0
+  FindsHeld sizes c = (w.looks new ≡ Loaded (hold_at sizes c) 1 ∷ w.looks old) × (w.loads new ≡ w.loads old)
+
   -- Nothing was put into it: its hold word was found to be 1. Or it was held, and then no record was had, or its queue
   -- took nothing.
   abbrev pub IsNotPut : Sizes → ℕ → Refusal → Type 0
   IsNotPut sizes c e =
-      ((e ≡ Busy) × (w.looks new ≡ Loaded (hold_at sizes c) 1 ∷ w.looks old))
+      ((e ≡ Busy) × FindsHeld sizes c)
       ⊎ ((mid : W) × HoldsSlot sizes c mid × (FindsNoRecord w qsbr any_change sizes mid new e ⊎ GivesBack w qsbr any_change sizes mid new e (c % sizes.queues)))
 
--- nor at the last of several tries
+-- What a try found that put nothing into a slot: its hold word at 1; or that at 0, which was left at 1, and no record.
+abbrev pub FoundInVain : Sizes → ℕ → List Look → Type 0
+FoundInVain sizes c found = (found ≡ Loaded (hold_at sizes c) 1 ∷ []) ⊎ ((search : List Look) × (found ≡ search ++ (Stored (hold_at sizes c) 1 ∷ Loaded (hold_at sizes c) 0 ∷ [])) × GetsNoRecord sizes search)
+
+-- The caller stands as it stood after tries that put nothing into a slot, the last one first. That is all that was found
+-- for it.
+pub record TriesInVain {W S : Type 0} (w : Ghosts W S) (sizes : Sizes) (c : ℕ) (old new : W) : Type 0 where
+  pub stays : Stays w old new
+  pub later : Begins (w.heard old) (w.heard new)
+  pub tries : List (List Look)
+  pub vain : Each (FoundInVain sizes c) tries
+  pub looks : w.looks new ≡ all_found tries ++ w.looks old
+  pub loads : w.loads new ≡ w.loads old
+
+-- at the last of several tries the slot was held and one record taken
+abbrev pub TakesLater : {W S : Type 0} → Ghosts W S → Bool → W → W → Sizes → ℕ → Type 0
+TakesLater {W} w qsbr old new sizes c = (last : W) × TriesInVain w sizes c old last × HoldsAndTakes w qsbr last new sizes c
+
+-- or nothing was put into it
 abbrev pub IsNotPutLater : {W S : Type 0} → Ghosts W S → Bool → W → W → Sizes → ℕ → Refusal → Type 0
-IsNotPutLater {W} w qsbr old new sizes c e = (last : W) × StaysOn w old last × IsNotPut w qsbr last new sizes c e
+IsNotPutLater {W} w qsbr old new sizes c e = (last : W) × TriesInVain w sizes c old last × IsNotPut w qsbr last new sizes c e

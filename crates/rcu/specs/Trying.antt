@@ -1,7 +1,7 @@
 -- What a call tells that tries again and again.
 use Rattle.std.specs.Prelude.{◌≡◌, ◌++◌, List, [], ◌∷◌}
 use Rattle.live_log.specs.Log.{Begins}
-use Rattle.rcu_hash.specs.live_read.Hearing.{Stays}
+use Rattle.rcu_hash.specs.live_read.Hearing.{OnlyHears, Stays}
 use Rattle.rcu_hash.specs.live_read.declared.caller.Caller.{Ghosts}
 use Rattle.rcu_hash.specs.live_rule.declared.rights.RecordRight.{RecordRight}
 use Rattle.rcu_hash.specs.live_rule.declared.view.Look.{Look}
@@ -13,6 +13,10 @@ use Rattle.rcu_hash.specs.Writers.{Each}
 -- The caller stands as it stood, and has heard of no less. All that was found for it before is still there.
 abbrev pub StaysOn : {W S : Type 0} → Ghosts W S → W → W → Type 0
 StaysOn w old new = Stays w old new × Begins (w.heard old) (w.heard new) × ((found : List Look) × (w.looks new ≡ found ++ w.looks old))
+
+-- Nothing was done or found for the caller, which has heard of no less.
+abbrev pub HearsOn : {W S : Type 0} → Ghosts W S → W → W → Type 0
+HearsOn w old new = OnlyHears w old new × Begins (w.heard old) (w.heard new)
 
 -- all that these tries found, the last one first
 abbrev pub all_found : List (List Look) → List Look

@@ -9,12 +9,13 @@ use rcu_model::Refusal;
 
 /// The chains of a domain, given out in the order of their numbers, so that a program need not lay them out by hand: one
 /// for each `Slot`, and one and a row of others for each `Map`. What is given out is given out once by the same `Chains`.
+/// A domain has one rule of chains and one type of callbacks: so it has slots or maps, and all its maps have one `F`.
 #[derive(Drop)]
 pub struct Chains {
     /// The first chain that was not given out.
-    pub next: usize,
+    pub(crate) next: usize,
     /// How many chains there are.
-    pub all: usize,
+    pub(crate) all: usize,
     pub(crate) ghost within: { next ≤ all },
 }
 

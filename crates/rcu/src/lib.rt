@@ -31,7 +31,7 @@ pub use rcu_hash::{
     AnyChain, BarrierMark, Callback, Caller, Chain, ChainRule, Counts, Deleter, Domain, Finished,
     Handle, Held, Item, Job, Keyed, Lent, ListView, LiveConfig as Config, LiveCookie as Cookie,
     MapRule, Opened, Owned, RcuHash, RcuList, Reader, Ripe, Section, Site, Stop, TableView, Tabled,
-    Ticket, TidyEnd, Unlinked, WorkerEnd,
+    Ticket, TidyEnd, Unlinked, WorkerEnd, buckets_answer_for_their_table, readings_fit,
 };
 pub use rcu_model::{ObjectId, Refusal};
 pub use reading::{Reading, with_reader};

@@ -14,7 +14,7 @@ ghost use Rattle.rcu_hash.specs.Refusing.{RefusesRemovalThrough};
 ghost use Rattle.rcu_hash.specs.Tidying.{IsTidied};
 ghost use Rattle.rcu_hash.specs.Writers.{Each};
 ghost use Rattle.rcu.specs.declared.reclaim.Reclaim.TheVariants.{Moved};
-ghost use Rattle.rcu.specs.Keys.{ChangesKey, GetsValue, HasWord, IsNotSet, Walks};
+ghost use Rattle.rcu.specs.Keys.{GetsValue, HasWord, IsNotSet, RemovesKey, SetsKey, Walks};
 ghost use Rattle.rcu.specs.Resizing.{GrewTo, IsNotResized, IsNotTidied, IsResized, OnlyMoves};
 
 use crate::reclaim::Reclaim;
@@ -46,9 +46,9 @@ fn moved<F: Deleter>(alloc: Global, many: usize) -> Result<Vec<Reclaim<F>>, Refu
 pub struct Map<'d, P: GracePlan, B: Site, F: Drop, T: Word> {
     domain: &'d Domain<P, Tabled, B, Reclaim<F>>,
     /// The table of the values' words.
-    pub table: RcuHash<'d, P, B, Reclaim<F>>,
+    pub(crate) table: RcuHash<'d, P, B, Reclaim<F>>,
     /// What is called with each entry that leaves it.
-    pub deleter: F,
+    pub(crate) deleter: F,
     value: PhantomData<T>,
 }
 
@@ -91,6 +91,13 @@ impl<'d, P: GracePlan + Drop, B: Site, F: Deleter + Copy, T: Word + Copy + Drop>
         })
     }
 
+    /// The table of the values' words, for what a map has no call for, as a growth that waits for nobody.
+    pub fn table(&self) -> &RcuHash<'d, P, B, Reclaim<F>>
+        ensures { result.now ≡ self.now.table }
+    {
+        &self.table
+    }
+
     /// The value of a key, or none: what the key has at some moment of the call. So a key that is there all along is
     /// found, also while its value is replaced, and while the map grows.
     pub fn get(&self, section: &mut Section<'_, P, Tabled, B>, key: u64) -> Option<T>
@@ -118,7 +125,7 @@ impl<'d, P: GracePlan + Drop, B: Site, F: Deleter + Copy, T: Word + Copy + Drop>
         key: u64,
         value: T,
     ) -> Result<(), Refusal>
-        ensures set { IfOk result (λ _. ChangesKey W.Caller P.QSBR B.sizes self.now.table.directory caller.old caller.new key (Some (T.packed value)) F.row self.now.deleter) }
+        ensures set { IfOk result (λ _. SetsKey W.Caller P.QSBR B.sizes self.now.table.directory caller.old caller.new key (T.packed value) F.row self.now.deleter) }
         ensures refused { IfErr result (λ e. (e ≡ PoolFull) ⊎ (e ≡ Closed) ⊎ (e ≡ Memory)) }
         ensures why { IfErr result (λ e. IsNotSet W.Caller P.QSBR B.sizes self.now.table.directory caller.old caller.new key e) }
     {
@@ -150,7 +157,8 @@ impl<'d, P: GracePlan + Drop, B: Site, F: Deleter + Copy, T: Word + Copy + Drop>
         caller: &mut W,
         key: u64,
     ) -> Result<(), Refusal>
-        ensures removed { IfOk result (λ _. ChangesKey W.Caller P.QSBR B.sizes self.now.table.directory caller.old caller.new key None F.row self.now.deleter) }
+        ensures removed { IfOk result (λ _. RemovesKey W.Caller P.QSBR B.sizes self.now.table.directory caller.old caller.new key F.row self.now.deleter) }
+        ensures same { IfOk result (λ _. (W.looks caller.new ≡ W.looks caller.old) × (W.loads caller.new ≡ W.loads caller.old)) }
         ensures refused { IfErr result (λ e. RefusesRemovalThrough W.Caller P.QSBR tabled B.sizes caller.old caller.new e self.now.table.directory key) }
     {
         match self

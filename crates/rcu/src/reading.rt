@@ -1,6 +1,7 @@
 //! How a thread reads, and gives its slot back whatever comes of it.
 
 ghost use Rattle.std.specs.Prelude.{ℕ, ⊤, IfErr, IfOk};
+ghost use Rattle.live_log.specs.Log.{Begins};
 ghost use Rattle.rcu.specs.Threads.{GivesBackASlot, IsNotRead};
 
 use gp_memb::GracePlan;
@@ -29,7 +30,8 @@ pub trait Reading<P: GracePlan, K: ChainRule, D: Deleter, R> {
 }
 
 /// Registers a reader, reads by it, and gives its slot back, also where the reading answers an error. Answers what that
-/// answers. A part of `with_threads` that reads calls it.
+/// answers. The handle hears of all that it had seen and heard of, whatever the reading did with it. A part of
+/// `with_threads` that reads calls it.
 ///
 /// Refused with `NoSlot` only where the bit of every slot was found set, and then nothing was read. Refused with `Busy`
 /// where the reading left a section or a lock open; then the slot stays claimed.
@@ -46,9 +48,12 @@ where
     ensures answered { IfOk result (λ x. F.gives reading.now x 0) }
     ensures freed { IfOk result (λ _. GivesBackASlot own.new.seat.me.0.looks) }
     ensures refused { IfErr result (λ e. IsNotRead (F.gives reading.now) e B.sizes own.old.seat.me.0.looks own.new.seat.me.0.looks) }
+    ensures heard { Begins own.old.seat.me.0.seen own.new.seat.me.0.heard × Begins own.old.seat.me.0.heard own.new.seat.me.0.heard }
 {
     let mut reader = domain.register(rt, own)?;
+    let mut known = domain.split(own);
     let answer = reading.read::<B>(rt, domain, own, &mut reader);
+    domain.inform(&mut known, own); // the reading may have put another handle in its place
     match reader.unregister(own) {
         Ok(()) => Ok(answer),
         Err((refusal, _)) => Err(refusal),

@@ -4,7 +4,7 @@ ghost use Rattle.std.specs.Prelude.{◌≡◌, ◌⊎◌, ◌<◌, ◌≤◌, If
 ghost use Rattle.rcu_model.specs.declared.refusal.Refusal.TheVariants.{Busy, Closed, Memory, NoPlace, PoolFull};
 ghost use Rattle.rcu_hash.specs.live_read.Hearing.{IsAfter, Stays};
 ghost use Rattle.rcu_hash.specs.live_read.Reads.{Looks};
-ghost use Rattle.rcu.specs.Slots.{FindsValue, IsNotPut, IsNotPutLater, PushesValue, any_change, ReplacesValueIn};
+ghost use Rattle.rcu.specs.Slots.{FindsValue, HoldsAndTakes, IsNotPut, IsNotPutLater, PushesValue, any_change, ReplacesValueIn, TakesLater};
 
 use crate::words::Words;
 use crossbeam_utils::Backoff;
@@ -20,9 +20,9 @@ use std::sync::Wait;
 pub struct Slot<'d, P: GracePlan, B: Site, D: Drop, T: Words> {
     domain: &'d Domain<P, AnyChain, B, D>,
     /// The chain of its record.
-    pub chain: usize,
+    pub(crate) chain: usize,
     /// The value that it was made with.
-    pub first: T,
+    pub(crate) first: T,
     pub(crate) ghost low: { chain < B.sizes.chains },
 }
 
@@ -79,6 +79,7 @@ impl<'d, P: GracePlan + Drop, B: Site, D: Deleter, T: Words + Copy + Drop> Slot<
     ) -> Result<Option<Ticket>, (Refusal, D)>
         ensures pushed { IfOk result (λ found. IfNone found (PushesValue W.Caller P.QSBR caller.old caller.new self.now.chain (T.packed value))) }
         ensures replaced { IfOk result (λ found. IfSome found (λ t. ReplacesValueIn W.Caller P.QSBR caller.old caller.new B.sizes self.now.chain (T.packed value) t.0 D.row callback)) }
+        ensures took { IfOk result (λ _. HoldsAndTakes W.Caller P.QSBR caller.old caller.new B.sizes self.now.chain) }
         ensures refused { IfErr result (λ e. (e.0 ≡ Busy) ⊎ (e.0 ≡ PoolFull) ⊎ (e.0 ≡ Closed) ⊎ (e.0 ≡ Memory)) }
         ensures why { IfErr result (λ e. IsNotPut W.Caller P.QSBR caller.old caller.new B.sizes self.now.chain e.0) }
         ensures back { IfErr result (λ e. (e.1 ≡ callback) × Stays W.Caller caller.old caller.new) }
@@ -119,6 +120,7 @@ impl<'d, P: GracePlan + Drop, B: Site, D: Deleter, T: Words + Copy + Drop> Slot<
     ) -> Result<Option<Ticket>, (Refusal, D)>
         ensures pushed { IfOk result (λ found. IfNone found (PushesValue W.Caller P.QSBR caller.old caller.new self.now.chain (T.packed value))) }
         ensures replaced { IfOk result (λ found. IfSome found (λ t. ReplacesValueIn W.Caller P.QSBR caller.old caller.new B.sizes self.now.chain (T.packed value) t.0 D.row callback)) }
+        ensures took { IfOk result (λ _. TakesLater W.Caller P.QSBR caller.old caller.new B.sizes self.now.chain) }
         ensures refused { IfErr result (λ e. (e.0 ≡ Closed) ⊎ (e.0 ≡ Memory)) }
         ensures why { IfErr result (λ e. IsNotPutLater W.Caller P.QSBR caller.old caller.new B.sizes self.now.chain e.0) }
         ensures back { IfErr result (λ e. (e.1 ≡ callback) × Stays W.Caller caller.old caller.new) }

@@ -4,7 +4,7 @@ ghost use Rattle.std.specs.Prelude.{◌≡◌, ℕ, IfErr, IfOk};
 ghost use Rattle.live_log.specs.Log.{HaveRun};
 ghost use Rattle.rcu_hash.specs.live_read.Hearing.{Stays};
 ghost use Rattle.rcu_hash.specs.live_callbacks.Working.{IsEmptied};
-ghost use Rattle.rcu.specs.Serving.{IsNotServed};
+ghost use Rattle.rcu.specs.Serving.{HasServed, IsNotServed};
 
 use gp_memb::GracePlan;
 use rcu_hash::{Caller, ChainRule, Deleter, Domain, Site, Stop};
@@ -14,8 +14,8 @@ use std::sync::Wait;
 use std::thread;
 
 /// Works for a queue, liburcu's thread of `call_rcu`, until the domain is closed and nothing is left: then each object
-/// that was ever put into the queue was run. Where memory is refused meanwhile it tries again. Answers how many objects
-/// it ran itself, which no clause tells.
+/// that was ever put into the queue was run, and for each that it ran itself its deleter was called. Where memory is
+/// refused meanwhile it tries again. Answers how many objects it ran itself, which no clause tells.
 ///
 /// Refused as `Domain::run_worker`, and with `Exhausted` where the sequence numbers are used up; then the callbacks of
 /// what is left are dropped. The caller, who has no section or lock open, and is offline where its reader is of the
@@ -28,7 +28,8 @@ pub fn work<P: GracePlan + Drop, K: ChainRule, B: Site, D: Deleter, W: Caller<B>
     queue: usize,
 ) -> Result<u64, Refusal>
     ensures run { IfOk result (λ _. (all : ℕ) × IsEmptied queue all (W.heard caller.new) × HaveRun queue all (W.heard caller.new)) }
-    ensures refused { IfErr result (λ e. IsNotServed W.Caller B.sizes queue caller.old caller.new e) }
+    ensures worked { IfOk result (λ _. HasServed W.Caller D.row.coded.code D.answers P.QSBR K.allows B.sizes queue caller.old caller.new) }
+    ensures refused { IfErr result (λ e. IsNotServed W.Caller D.row.coded.code D.answers P.QSBR K.allows B.sizes queue caller.old caller.new e) }
     ensures same { Stays W.Caller caller.old caller.new }
 {
     let mut reclaimed = 0u64;

@@ -1,10 +1,10 @@
-use Rattle.rcu.proofs.Cited.{rules, [], ◌∷◌, sym, always_mut, mut_by, Called}
+use Rattle.rcu.proofs.Cited.{arith, rules, [], ◌∷◌, sym, always_mut, mut_by, Called}
 use Rattle.rcu.specs.Keys.{HasWord}
 use Rattle.rcu.proofs.Walking.{folds_at, folds_through}
 use Rattle.rcu.proofs.map.Map.for_each.Goals as goal
 
 pub for_each-requires : goal.for_each-requires
-for_each-requires g c = record { callable = mut_by _ (λ s. always_mut g.V.FnMut s.0.now) (λ s a i. i) (λ s a r t i e. search rules) _ c.requires.callable }
+for_each-requires g c = (omega arith, mut_by _ (λ s. always_mut g.V.FnMut s.0.now) (λ s a i. i) (λ s a r t i e. search rules) _ c.requires.callable)
 
 pub returns-clause-met : goal.returns-clause-met
 returns-clause-met g c =

@@ -69,6 +69,22 @@ returns-in-Ok-replace_retire-clause-replaced g c =
       handed = subst (λ (n : ℕ). HandsOver qsbr any_change r.object (n % g.B.Site.sizes.queues) c.in-Ok-replace_retire.ticket.0 (g.row.D.coded.code c.args.callback) new.seen (w.heard put)) c.in-Ok.ensures.held.0 (record { given = r.given; turn = r.turn; queued = r.queued });
     }
 
+pub returns-then-len-eq0-clause-took : goal.returns-then-len-eq0-clause-took
+returns-then-len-eq0-clause-took g c =
+    let h = c.in-Ok.ensures in let t = c.in-Ok-alloc.ensures.took in let p = c.push.ensures.same in (
+      c.chain.new.caller,
+      record { looks = h.held.2; loads = h.same.1; stays = h.same.0; later = (h.heard c.args.self.now.low).after_heard },
+      (p.2 ∙ c.alloc.ensures.same.1, (c.in-Ok-alloc.owned.seat.me.0.object, (t.0, p.1 ∙ t.1, t.2))),
+    )
+
+pub returns-in-Ok-replace_retire-clause-took : goal.returns-in-Ok-replace_retire-clause-took
+returns-in-Ok-replace_retire-clause-took g c =
+    let h = c.in-Ok.ensures in let t = c.in-Ok-alloc.ensures.took in let p = c.in-Ok-replace_retire.ensures.same.0 in (
+      c.chain.new.caller,
+      record { looks = h.held.2; loads = h.same.1; stays = h.same.0; later = (h.heard c.args.self.now.low).after_heard },
+      (p.2 ∙ c.alloc.ensures.same.1, (c.in-Ok-alloc.owned.seat.me.0.object, (t.0, p.1 ∙ t.1, t.2))),
+    )
+
 pub returns-in-Err-alloc-clause-heard : goal.returns-in-Err-alloc-clause-heard
 returns-in-Err-alloc-clause-heard g c =
     let w = g.W.Caller in
@@ -82,7 +98,7 @@ returns-clause-heard g c =
     (went_on w qsbr any_change before refused c.discard.new.caller (went_refused w qsbr any_change before ready refused had c.in-Err-replace_retire.ensures.refused) (c.discard.ensures.same.0, c.discard.ensures.heard.0)).1
 
 pub returns-in-Err-clause-why : goal.returns-in-Err-clause-why
-returns-in-Err-clause-why g c = let low = c.args.self.now.low in ⊎_elim (λ n. let none = n.1 in absurd (omega arith)) (λ b. inl (b.0, b.2)) c.in-Err.ensures.refused
+returns-in-Err-clause-why g c = let low = c.args.self.now.low in ⊎_elim (λ n. let none = n.1 in absurd (omega arith)) (λ b. inl (b.0, (b.2, c.in-Err.ensures.same.1))) c.in-Err.ensures.refused
 
 pub returns-in-Err-alloc-clause-why : goal.returns-in-Err-alloc-clause-why
 returns-in-Err-alloc-clause-why g c = let h = c.in-Ok.ensures in let l = c.in-Err-alloc.ensures.looks in
