@@ -1,7 +1,7 @@
 #!/usr/bin/env python3
 """Bugs to plant in the live library, each of which a row or a drawn script has to show.
 
-bugs.py                   whether the text of each stands once in its file
+bugs.py                   whether the text of each stands once in its file; the last line is 'bugs: N passed, M failed'
 bugs.py plant NAME TOP    plants one in the repository TOP, which is a copy
 bugs.py catch PROGRAM..   how many rows and drawn scripts each program answers wrongly, and how many as they are watched
 """
@@ -223,9 +223,9 @@ BUGS = [
     (
         "a list removes its last key in place of another",
         "rcu_list/src/list.rt",
-        "        domain.cut_retire(rt, caller, &mut self.chain, index, callback)",
+        "        match domain.cut_retire(rt, caller, &mut self.chain, index, callback) {\n",
         "        let last = self.chain.len() - 1 + index - index;\n"
-        "        domain.cut_retire(rt, caller, &mut self.chain, last, callback)",
+        "        match domain.cut_retire(rt, caller, &mut self.chain, last, callback) {\n",
     ),
     (
         "keys have the rank of the one before",
@@ -261,24 +261,10 @@ BUGS = [
     (
         "a refused table leaves notes",
         "rcu_hash/src/table.rt",
-        "        let lents = room(alloc, buckets)?;\n"
-        "        let owned = match domain.alloc(rt, caller, [first as u64, buckets as u64, 0, 1]) {\n"
-        "            Ok(owned) => owned,\n"
-        "            Err(refusal) => {\n"
+        "                lents.destroy_empty();\n",
         "                lents.destroy_empty();\n"
-        "                return Err(refusal);\n"
-        "            }\n"
-        "        };\n"
-        "        let chains = note_all(chains, noted, caller, directory as u64 + 1);\n",
-        "        let lents = room(alloc, buckets)?;\n"
-        "        let chains = note_all(chains, noted, caller, directory as u64 + 1);\n"
-        "        let owned = match domain.alloc(rt, caller, [first as u64, buckets as u64, 0, 1]) {\n"
-        "            Ok(owned) => owned,\n"
-        "            Err(refusal) => {\n"
-        "                lents.destroy_empty();\n"
-        "                return Err(refusal);\n"
-        "            }\n"
-        "        };\n",
+        "                let mut own = own;\n"
+        "                own.set_note(caller, 7);\n",
     ),
     (
         "a growth answers one too few",
@@ -427,7 +413,7 @@ def main(words):
     match words:
         case []:
             found = list(misplaced())
-            print("\n".join([*found, f"bugs: {len(BUGS) - len(found)} stand once, {len(found)} do not"]))
+            print("\n".join([*found, f"bugs: {len(BUGS) - len(found)} passed, {len(found)} failed"]))
             return 1 if found else 0
         case ["plant", name, top]:
             plant(name, top)
