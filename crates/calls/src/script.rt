@@ -23,13 +23,13 @@ fn answer_chains<P: GracePlan + Drop, B: Site, W: Write, H: Wait>(
     rt: &H,
     alloc: Global,
     opened: Opened<P, AnyChain>,
+    queues: usize,
     text: &[u8],
     writer: &mut W,
 ) -> Result<(), ReplayFault>
     requires { Names B.Site opened }
     ensures { AnswersLines text.now (W.contents writer.old) (W.contents writer.new) result }
 {
-    let queues = opened.table.queues;
     let Ok((domain, record)) = opened.into_domain::<B, Code>(alloc) else {
         return Err(ReplayFault::Memory);
     };
@@ -44,13 +44,13 @@ fn answer_maps<P: GracePlan + Drop, B: Site, W: Write, H: Wait>(
     rt: &H,
     alloc: Global,
     opened: Opened<P, Tabled>,
+    queues: usize,
     text: &[u8],
     writer: &mut W,
 ) -> Result<(), ReplayFault>
     requires { Names B.Site opened }
     ensures { AnswersLines text.now (W.contents writer.old) (W.contents writer.new) result }
 {
-    let queues = opened.table.queues;
     let Ok((domain, record)) = opened.into_domain::<B, Code>(alloc) else {
         return Err(ReplayFault::Memory);
     };
@@ -86,14 +86,15 @@ fn answer_in<P: GracePlan + Drop, W: Write, H: Wait>(
     if !config.is_supported() {
         return Err(ReplayFault::BadConfig);
     }
+    let queues = config.queues;
     if header.maps {
         match Opened::<P, Tabled>::new(alloc, config) {
-            Ok(opened) => answer_maps::<P, Brand, W, H>(rt, alloc, opened, text, writer),
+            Ok(opened) => answer_maps::<P, Brand, W, H>(rt, alloc, opened, queues, text, writer),
             Err(_) => Err(ReplayFault::Memory),
         }
     } else {
         match Opened::<P, AnyChain>::new(alloc, config) {
-            Ok(opened) => answer_chains::<P, Brand, W, H>(rt, alloc, opened, text, writer),
+            Ok(opened) => answer_chains::<P, Brand, W, H>(rt, alloc, opened, queues, text, writer),
             Err(_) => Err(ReplayFault::Memory),
         }
     }

@@ -18,8 +18,12 @@ use std::sync::{Arc, Mutex};
 
 impl<P: GracePlan + Drop, K: ChainRule> Opened<P, K> {
     /// The domain under this name, and the first handle, which has seen nothing yet. `B` is a type that stands for this
-    /// domain alone: a program is generic in it, and picks it in one line of a proof (`Names`, docs/USING.md). `D` is
-    /// what is called with each object that is reclaimed: the boxed `Callback`, or a type of the program's own.
+    /// domain alone. `D` is what is called with each object that is reclaimed: the boxed `Callback`, or a type of the
+    /// program's own.
+    ///
+    /// A program picks `B` as `std::marker::Brand` where it calls a function that is generic in it, and one line of
+    /// a proof says so. Where `start` calls `serve`, that line of `proofs/start/Invariants.antt` is
+    /// `ghosts-serve g a = names a.opened`; docs/USING.md has the whole file.
     ///
     /// Refused with `Memory` where memory is.
     pub fn into_domain<B: Site, D: Deleter>(

@@ -15,7 +15,7 @@ use std::alloc::Global;
 #[derive(Drop)]
 pub struct Opened<P: GracePlan, K: ChainRule> {
     /// The words.
-    pub table: LiveTable<P, K>,
+    pub(crate) table: LiveTable<P, K>,
     pub(crate) seat: LiveSeat,
     pub ghost fresh: { (seat.table_id ≡ table.words.shared.table_id) × (seat.me ≡ (first_view table.words.shared.key, [])) × (0 < table.slots) × (1 ≤ table.queues) },
 }

@@ -12,7 +12,7 @@ use std::snapshot::Snapshot;
 pub struct BarrierMark {
     pub(crate) counts: [u64; 8],
     /// The log at the first load.
-    pub asked: Snapshot<LiveSeat>,
+    pub(crate) asked: Snapshot<LiveSeat>,
     pub ghost noted: { CoverAll asked.value.me.0.sizes counts asked.value.me.0.seen },
 }
 
