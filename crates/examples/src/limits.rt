@@ -17,7 +17,7 @@ impl<R: Wait> Threaded<Memb, AnyChain, NoCallback, R> for Server {
     type Out = Result<u64, Refusal>;
 
     // What thread 0 found last where nothing is refused, which `with_threads` tells of its first answer.
-    ghost gives = { λ _ number answer. number ≡ 0 → IfOk answer (λ lower. lower ≡ 200) };
+    ghost gives = { λ _ _ number answer. number ≡ 0 → IfOk answer (λ lower. lower ≡ 200) };
 
     fn part<B: Site>(
         &self,

@@ -36,12 +36,12 @@ fn show<R: Threads + Wait + Sync>(rt: &R, alloc: Global) -> Result<Found, Refusa
     let stopped = with_threads(rt, alloc, SMALL, 2, &shutdown::Updaters)?;
     Ok(Found {
         limit: least(&served),
-        hops: with_domain(rt, alloc, SMALL, routes::Router)??,
-        turns: with_domain(rt, alloc, SMALL, event_loop::EventLoop)??,
-        codes: with_domain(rt, alloc, SMALL, callbacks::Files)??,
-        room: with_domain(rt, alloc, SMALL, polling::Hotel)??,
+        hops: with_domain(rt, alloc, SMALL, routes::Router).map_err(|refused| refused.0)??,
+        turns: with_domain(rt, alloc, SMALL, event_loop::EventLoop).map_err(|refused| refused.0)??,
+        codes: with_domain(rt, alloc, SMALL, callbacks::Files).map_err(|refused| refused.0)??,
+        room: with_domain(rt, alloc, SMALL, polling::Hotel).map_err(|refused| refused.0)??,
         reclaimed: reclaimed(&stopped),
-        stock: with_domain(rt, alloc, SMALL, stock::Stock)??,
+        stock: with_domain(rt, alloc, SMALL, stock::Stock).map_err(|refused| refused.0)??,
         free: leases::serve::<Brand, R>(rt, alloc, opened)?,
     })
 }

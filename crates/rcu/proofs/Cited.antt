@@ -7,10 +7,11 @@ pub use Rattle.live_log.specs.declared.callback_id.CallbackId.{CallbackId}
 pub use Rattle.live_log.specs.declared.event.LiveEvent.{LiveEvent}
 pub use Rattle.live_log.specs.declared.event.LiveEvent.TheVariants.{ChainNote, Close, CloseQueue, Object, Open, Present, SeqEven, SeqOdd}
 pub use Rattle.live_log.specs.declared.event.ObjectEvent.TheVariants.{Cut, Push, Queue, Replace, Retire, Run}
-pub use Rattle.rcu_hash.proofs.Lemmas.{callbacks_both, changes_both, during_since, follow_both, follow_weaker, freed_both}
+pub use Rattle.rcu_hash.proofs.Lemmas.{callbacks_both, changes_both, during_since, follow_both, follow_weaker, freed_both, frees_both, only_free}
 pub use Rattle.rcu_hash.proofs.live_read.Lemmas.{looks_twice, more_made, none_made, stays_makes}
 pub use Rattle.rcu_hash.proofs.rcu_list.Lemmas.{gives_back}
 pub use Rattle.rcu_hash.specs.Calls.{IsGrown, IsNotGrown}
+pub use Rattle.rcu_hash.specs.Freeing.{FreesAll}
 pub use Rattle.rcu_hash.specs.Growing.{HasLeft}
 pub use Rattle.rcu_hash.specs.Refusing.{During, RefusesInsertionThrough, RefusesReplacementThrough}
 pub use Rattle.rcu_hash.specs.Tidying.{EndsTidying, FindsEnd, Follow, IsQueueAmong, IsRefused, LinksStill, StopsTidying, callbacks_in, changes_in, numbers_of}

@@ -1,7 +1,7 @@
 -- What a map's tidyings did for a caller that calls again and again.
-use Rattle.rcu.proofs.Cited.{Gv, RattleType, ◌≡◌, ◌++◌, ◌∷◌, ◌∙◌, Bool, List, [], Option, Some, IfSome, ℕ, ◌+◌, inl, inr, ⊎_elim, ap, map, refl, reverse, subst, sym, append_assoc, reverse-append, In, Refusal, Busy, FewJobs, Log, Begins, chain_note, tabled, begins_trans, Look, Sizes, IsAfter, MakesMany, Stays, Ghosts, IsGrown, IsNotGrown, HasLeft, TidyEnd, During, EndsTidying, FindsEnd, Follow, IsQueueAmong, IsRefused, LinksStill, StopsTidying, callbacks_in, changes_in, numbers_of, Each, more_made, none_made, callbacks_both, changes_both, follow_both, follow_weaker, during_since, freed_both}
+use Rattle.rcu.proofs.Cited.{Gv, RattleType, ◌≡◌, ◌++◌, ◌∷◌, ◌∙◌, Bool, List, [], Option, Some, IfSome, ℕ, ◌+◌, inl, inr, ⊎_elim, ap, map, refl, reverse, subst, sym, append_assoc, reverse-append, In, Refusal, Busy, FewJobs, Log, Begins, chain_note, tabled, begins_trans, Look, Sizes, IsAfter, MakesMany, Stays, Ghosts, IsNotGrown, HasLeft, TidyEnd, During, EndsTidying, FindsEnd, Follow, IsQueueAmong, IsRefused, LinksStill, StopsTidying, callbacks_in, changes_in, numbers_of, Each, more_made, none_made, callbacks_both, changes_both, follow_both, follow_weaker, during_since, freed_both, frees_both, only_free, FreesAll}
 use Rattle.rcu.specs.Reclaiming.{moved_code}
-use Rattle.rcu.specs.Resizing.{HearsMore, IsMapQueue, IsNotResized, IsNotTidied, OnlyMoves}
+use Rattle.rcu.specs.Resizing.{HearsMore, IsMapQueue, IsNotResized, IsNotTidied, IsResized, OnlyMoves}
 use Rattle.rcu.proofs.Hearing.{still_after}
 
 -- what is so of each of two lists is so of both together
@@ -50,6 +50,7 @@ module _ {W S : Type 0} (w : Ghosts W S) (qsbr : Bool) (sizes : Sizes) (d : ℕ)
     callbacks = tt;
     made = none_made w a a (refl, refl, λ h. h, refl);
     freed = λ c none. absurd none;
+    kept = λ i. tt;
   }
 
   -- one thing was done after another
@@ -62,11 +63,12 @@ module _ {W S : Type 0} (w : Ghosts W S) (qsbr : Bool) (sizes : Sizes) (d : ℕ)
     callbacks = subst (Each (λ c. c ≡ moved_code R)) (sym (callbacks_both qsbr tabled sizes d (w.seen a) x.steps y.steps)) (each_both _ (callbacks_in x.steps) (callbacks_in y.steps) x.callbacks y.callbacks);
     made = subst (MakesMany w a c) (sym (changes_both qsbr tabled sizes d (w.seen a) x.steps y.steps)) (more_made w a b c (changes_in x.steps) (changes_in y.steps) x.made y.made);
     freed = freed_both qsbr tabled sizes d (w.seen a) x.steps y.steps x.hears.found y.hears.found x.freed y.freed;
+    kept = frees_both sizes x.hears.found y.hears.found x.kept y.kept;
   }
 
   -- a tidying did only that, whatever came of it
-  tidied_moves : {D : Type 0} (code : D → Gv) (m : D) (old new : W) (jobs left : List D) → code m ≡ moved_code R → Each (λ x. x ≡ m) jobs → EndsTidying w qsbr tabled old new sizes d code jobs left → Begins (w.heard old) (w.heard new) → ((found : List Look) × (w.looks new ≡ found ++ w.looks old)) → OnlyMoves w qsbr sizes d R old new
-  tidied_moves code m old new jobs left is all (inl t) later found = let u = t.uses in let asked = begins_trans (w.heard old) t.ended.asked t.waited t.ended.after.after_heard t.ended.later in record {
+  tidied_moves : {D : Type 0} (code : D → Gv) (m : D) (old new : W) (jobs left : List D) → code m ≡ moved_code R → Each (λ x. x ≡ m) jobs → EndsTidying w qsbr tabled old new sizes d code jobs left → Begins (w.heard old) (w.heard new) → OnlyMoves w qsbr sizes d R old new
+  tidied_moves code m old new jobs left is all (inl t) later = let u = t.uses in let asked = begins_trans (w.heard old) t.ended.asked t.waited t.ended.after.after_heard t.ended.later in record {
     hears = record {
       same = u.made.made.0;
       later = later;
@@ -81,19 +83,21 @@ module _ {W S : Type 0} (w : Ghosts W S) (qsbr : Bool) (sizes : Sizes) (d : ℕ)
         (subst (Each (λ x. x ≡ code m)) (sym u.callbacks) (each_code code m (reverse u.used) (each_reversed _ u.used (each_behind _ left u.used (subst (Each (λ x. x ≡ m)) u.are all)))));
     made = u.made;
     freed = u.freed;
+    kept = only_free sizes u.found u.only;
   }
-  tidied_moves code m old new jobs left is all (inr s) later found = record {
-    hears = record { same = s.1.0.0; later = later; found = found.0; looks = found.1; loaded = s.2.0; loads = s.2.1 };
+  tidied_moves code m old new jobs left is all (inr s) later = record {
+    hears = record { same = s.1.0.0; later = later; found = []; looks = s.1.1; loaded = s.2.0; loads = s.2.1 };
     steps = [];
     follow = later;
     callbacks = tt;
     made = none_made w old new s.1.0;
     freed = λ c none. absurd none;
+    kept = λ i. tt;
   }
 
   -- so did the calls before it and the tidying
-  pub moves_tidied : {D : Type 0} (code : D → Gv) (m : D) (a old new : W) (jobs left : List D) → code m ≡ moved_code R → OnlyMoves w qsbr sizes d R a old → Each (λ x. x ≡ m) jobs → EndsTidying w qsbr tabled old new sizes d code jobs left → Begins (w.heard old) (w.heard new) → ((found : List Look) × (w.looks new ≡ found ++ w.looks old)) → OnlyMoves w qsbr sizes d R a new
-  moves_tidied code m a old new jobs left is x all end later found = moves_on a old new x (tidied_moves code m old new jobs left is all end later found)
+  pub moves_tidied : {D : Type 0} (code : D → Gv) (m : D) (a old new : W) (jobs left : List D) → code m ≡ moved_code R → OnlyMoves w qsbr sizes d R a old → Each (λ x. x ≡ m) jobs → EndsTidying w qsbr tabled old new sizes d code jobs left → Begins (w.heard old) (w.heard new) → OnlyMoves w qsbr sizes d R a new
+  moves_tidied code m a old new jobs left is x all end later = moves_on a old new x (tidied_moves code m old new jobs left is all end later)
 
 module _ {W S : Type 0} (w : Ghosts W S) (qsbr : Bool) (sizes : Sizes) (d : ℕ) (R : RattleType) (a b c : W) (more : HearsMore w a b) where
   -- what was loaded after all that it knew later was loaded after all that it knew before
@@ -142,14 +146,15 @@ if_is r x P is h = subst (λ o. IfSome o P) is h
 
 module _ {W S : Type 0} (w : Ghosts W S) (qsbr : Bool) (sizes : Sizes) (d : ℕ) (R : RattleType) where
   -- a growth that was refused did nothing
-  pub refused_moves : (a b : W) → Stays w a b → Begins (w.heard a) (w.heard b) → (found : List Look) → (w.looks b ≡ found ++ w.looks a) → ((logs : List Log) × (w.loads b ≡ logs ++ w.loads a)) → OnlyMoves w qsbr sizes d R a b
-  refused_moves a b stays later found looks logs = record {
+  pub refused_moves : (a b : W) → Stays w a b → Begins (w.heard a) (w.heard b) → (found : List Look) → (w.looks b ≡ found ++ w.looks a) → FreesAll sizes found → ((logs : List Log) × (w.loads b ≡ logs ++ w.loads a)) → OnlyMoves w qsbr sizes d R a b
+  refused_moves a b stays later found looks frees logs = record {
     hears = record { same = stays.0; later = later; found = found; looks = looks; loaded = logs.0; loads = logs.1 };
     steps = [];
     follow = later;
     callbacks = tt;
     made = none_made w a b stays;
     freed = λ c none. absurd none;
+    kept = frees;
   }
 
   -- it was refused for what an earlier one left
@@ -161,8 +166,8 @@ module _ {W S : Type 0} (w : Ghosts W S) (qsbr : Bool) (sizes : Sizes) (d : ℕ)
 
   -- the last tidying of a map that is resized
   module _ (old was mid new : W) (first buckets : ℕ) (x : OnlyMoves w qsbr sizes d R old was) (z : OnlyMoves w qsbr sizes d R mid new) (e : Refusal) (untidy : IsNotTidied w qsbr sizes d R mid new e) where
-    pub untidied_grown : (left : ℕ) → HearsMore w was mid → IsGrown w qsbr sizes was mid d first buckets left → IsNotResized w qsbr sizes d R old new first buckets e
-    untidied_grown left more grown = inr (untidied_since w qsbr sizes d R old mid new (hears_on w old was mid x.hears more) e untidy, inl (was, mid, left, x, grown, z))
+    pub untidied_grown : IsResized w qsbr sizes d R old new first buckets → HearsMore w was mid → IsNotResized w qsbr sizes d R old new first buckets e
+    untidied_grown resized more = inr (untidied_since w qsbr sizes d R old mid new (hears_on w old was mid x.hears more) e untidy, inl resized)
 
     pub untidied_busy : (why : Refusal) → why ≡ Busy → OnlyMoves w qsbr sizes d R was mid → IsNotGrown w qsbr sizes was mid d first buckets why → IsNotResized w qsbr sizes d R old new first buckets e
     untidied_busy why busy y r = let left = busy_left was mid first buckets why busy r in let to = moves_on w qsbr sizes d R old was mid x y in

@@ -11,7 +11,7 @@ use Rattle.rcu_hash.specs.live_read.declared.caller.Caller.{Ghosts}
 use Rattle.rcu_hash.specs.live_rule.declared.view.Look.{Look}
 use Rattle.rcu_hash.specs.live_rule.declared.view.Sizes.{Sizes}
 use Rattle.rcu_hash.specs.Calls.{IsGrown, IsNotGrown}
-use Rattle.rcu_hash.specs.Freeing.{KeepsNone}
+use Rattle.rcu_hash.specs.Freeing.{FreesAll, KeepsMany, KeepsNone}
 use Rattle.rcu_hash.specs.Growing.{Grows, HasLeft}
 use Rattle.rcu_hash.specs.Refusing.{During}
 use Rattle.rcu_hash.specs.Tidying.{AreFreed, FindsEnd, Follow, IsRefused, Kind, callbacks_in, changes_in, cleared_in}
@@ -43,7 +43,7 @@ module _ {W S : Type 0} (w : Ghosts W S) (old new : W) where
 module _ {W S : Type 0} (w : Ghosts W S) (qsbr : Bool) (sizes : Sizes) (d : ℕ) (R : RattleType) (old new : W) where
   -- No change was made for the caller but the cuts and notes of tidyings. Each step of these left the map as it was, and
   -- each object that was cut is retired with the callback that does nothing. Each chain that lost its note was given
-  -- back.
+  -- back. Each record that was taken is free again.
   pub record OnlyMoves : Type 0 where
     pub hears : HearsMore w old new
     pub steps : List (Kind × Log)
@@ -51,6 +51,7 @@ module _ {W S : Type 0} (w : Ghosts W S) (qsbr : Bool) (sizes : Sizes) (d : ℕ)
     pub callbacks : Each (λ c. c ≡ moved_code R) (callbacks_in steps)
     pub made : MakesMany w old new (changes_in steps)
     pub freed : AreFreed sizes (cleared_in steps) hears.found
+    pub kept : FreesAll sizes hears.found
 
   -- one of the map's queues: that of its directory's chain, or of a chain that had its note in a log of the call
   abbrev pub IsMapQueue : ℕ → Type 0
@@ -67,9 +68,18 @@ module _ {W S : Type 0} (w : Ghosts W S) (qsbr : Bool) (sizes : Sizes) (d : ℕ)
   abbrev pub GrewTo : Type 0
   GrewTo = Grew qsbr tabled sizes.chains d (w.seen old) (w.heard old) first buckets (w.heard new)
 
-  -- nothing else was done but the steps of tidyings, before that and after
-  abbrev pub IsResized : Type 0
-  IsResized = (from : W) × (to : W) × (left : ℕ) × OnlyMoves w qsbr sizes d R old from × IsGrown w qsbr sizes from to d first buckets left × OnlyMoves w qsbr sizes d R to new
+  -- nothing else was done but the steps of tidyings, before that and after; the growth took no record but those it told
+  pub record IsResized : Type 0 where
+    pub from : W
+    pub to : W
+    pub left : ℕ
+    pub found : List Look
+    pub before : OnlyMoves w qsbr sizes d R old from
+    pub grown : IsGrown w qsbr sizes from to d first buckets left
+    pub looks : w.looks to ≡ found ++ w.looks from
+    pub took : KeepsMany sizes left found
+    pub loads : w.loads to ≡ w.loads from
+    pub after : OnlyMoves w qsbr sizes d R to new
 
   -- A growth was refused at the last of several tries, but not for what an earlier one left. It made no change, and
   -- keeps no record.

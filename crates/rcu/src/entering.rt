@@ -4,6 +4,7 @@ ghost use Rattle.std.specs.Prelude.{◌≡◌, IfErr, IfOk};
 ghost use Rattle.rcu_model.specs.declared.refusal.Refusal.TheVariants.{Memory};
 ghost use Rattle.rcu_hash.specs.domain.Config.{new_refusal};
 ghost use Rattle.rcu.specs.Naming.{Names};
+ghost use Rattle.rcu.specs.Threads.{sizes_of};
 
 use crate::program::Program;
 use gp_memb::GracePlan;
@@ -15,33 +16,35 @@ use std::marker::Brand;
 /// Makes a domain of this size, and runs the program over it. Answers what that answers.
 ///
 /// Refused with `BadConfig` exactly where a number is out of its limits, else with `Memory` where memory is refused;
-/// then the program was not run. It waits where the program does.
-pub fn with_domain<P: GracePlan + Drop, K: ChainRule, D: Deleter, R, F: Program<P, K, D, R> + Drop>(
+/// then the program was not run, and comes back. It waits where the program does.
+pub fn with_domain<P: GracePlan + Drop, K: ChainRule, D: Deleter, R, F: Program<P, K, D, R>>(
     rt: &R,
     alloc: Global,
     config: LiveConfig,
     program: F,
-) -> Result<F::Out, Refusal>
-    ensures answered { IfOk result (λ x. F.gives program x) }
-    ensures refused { IfErr result (λ e. e ≡ new_refusal config) }
+) -> Result<F::Out, (Refusal, F)>
+    ensures answered { IfOk result (λ x. F.gives program (sizes_of config) x) }
+    ensures refused { IfErr result (λ e. (e.0 ≡ new_refusal config) × (e.1 ≡ program)) }
 {
-    let opened = Opened::<P, K>::new(alloc, config)?;
-    entered::<Brand, P, K, D, R, F>(rt, alloc, opened, program)
+    match Opened::<P, K>::new(alloc, config) {
+        Ok(opened) => entered::<Brand, P, K, D, R, F>(rt, alloc, opened, program),
+        Err(refusal) => Err((refusal, program)),
+    }
 }
 
 // Gives the domain its type.
-fn entered<
-    B: Site,
-    P: GracePlan + Drop,
-    K: ChainRule,
-    D: Deleter,
-    R,
-    F: Program<P, K, D, R> + Drop,
->(rt: &R, alloc: Global, opened: Opened<P, K>, program: F) -> Result<F::Out, Refusal>
+fn entered<B: Site, P: GracePlan + Drop, K: ChainRule, D: Deleter, R, F: Program<P, K, D, R>>(
+    rt: &R,
+    alloc: Global,
+    opened: Opened<P, K>,
+    program: F,
+) -> Result<F::Out, (Refusal, F)>
     requires { Names B.Site opened }
-    ensures answered { IfOk result (λ x. F.gives program x) }
-    ensures refused { IfErr result (λ e. e ≡ Memory) }
+    ensures answered { IfOk result (λ x. F.gives program B.sizes x) }
+    ensures refused { IfErr result (λ e. (e.0 ≡ Memory) × (e.1 ≡ program)) }
 {
-    let (domain, first) = opened.into_domain::<B, D>(alloc)?;
-    Ok(program.run::<B>(rt, alloc, &domain, first))
+    match opened.into_domain::<B, D>(alloc) {
+        Ok((domain, first)) => Ok(program.run::<B>(rt, alloc, &domain, first)),
+        Err(refusal) => Err((refusal, program)),
+    }
 }

@@ -1,7 +1,8 @@
 #![tactic(auto)]
-//! The library over live threads, as a program uses it. A program's line in `crates.txt` names this crate alone, and
-//! none of those below it. The general-purpose flavour `Memb` has the steps of liburcu's mb, and not the steps of its
-//! memb. A call waits only where it takes a runtime `rt`, and takes memory only where it can be refused with `Memory`.
+//! RCU over live threads; its general-purpose flavour `Memb` has the steps of liburcu's mb, and not those of its memb.
+//!
+//! A program's line in `crates.txt` names this crate alone, and none of those below it. A call waits only where it takes
+//! a runtime `rt`. Where memory is refused a call is refused with `Memory`, or stops or tries again, as its text says.
 
 mod callbacks;
 mod chains;

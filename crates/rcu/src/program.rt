@@ -1,6 +1,8 @@
 //! What is run over a domain.
 
-ghost use Rattle.std.specs.Prelude.{ℕ, ⊤};
+ghost use Rattle.std.specs.Prelude.{ℕ, ⊤, ◌≡◌, [], IfErr};
+ghost use Rattle.rcu_model.specs.declared.refusal.Refusal.{Refusal};
+ghost use Rattle.rcu_hash.specs.live_rule.declared.view.Sizes.{Sizes};
 
 use gp_memb::GracePlan;
 use rcu_hash::{ChainRule, Deleter, Domain, Handle, Site};
@@ -13,8 +15,8 @@ pub trait Program<P: GracePlan, K: ChainRule, D: Deleter, R> {
     /// What it answers.
     type Out;
 
-    /// What it may answer. A program that leaves this out says nothing of it.
-    ghost gives: { Self → Self.Out → Type 0 } = { λ _ _. ⊤ };
+    /// What it may answer over a domain of these sizes. A program that leaves this out says nothing of it.
+    ghost gives: { Self → Sizes → Self.Out → Type 0 } = { λ _ _ _. ⊤ };
 
     /// Runs it, over a domain with no reader, whose first handle has seen nothing yet.
     fn run<B: Site>(
@@ -24,7 +26,8 @@ pub trait Program<P: GracePlan, K: ChainRule, D: Deleter, R> {
         domain: &Domain<P, K, B, D>,
         first: Handle<B>,
     ) -> Self::Out
-        ensures { gives self result };
+        requires { (first.seat.me.0.seen ≡ []) × (first.seat.me.0.heard ≡ []) }
+        ensures { gives self B.sizes result };
 }
 
 /// What several threads run over a domain of their own, under a runtime `R`. `with_threads` runs it, and the workers of
@@ -33,8 +36,12 @@ pub trait Threaded<P: GracePlan, K: ChainRule, D: Deleter, R> {
     /// What a thread answers.
     type Out;
 
-    /// What the thread of a number may answer. A program that leaves this out says nothing of it.
-    ghost gives: { Self → ℕ → Self.Out → Type 0 } = { λ _ _ _. ⊤ };
+    /// What the thread of a number may answer over a domain of these sizes. A program that leaves this out says nothing
+    /// of it.
+    ghost gives: { Self → Sizes → ℕ → Self.Out → Type 0 } = { λ _ _ _ _. ⊤ };
+
+    /// What `begin` may be refused by. A program that leaves this out says nothing of it.
+    ghost stops: { Self → Refusal → Type 0 } = { λ _ _. ⊤ };
 
     /// What is done before there are threads, over a domain with no reader, whose first handle has seen nothing yet.
     /// Each thread has seen all that was done here. Where it is refused no thread starts.
@@ -42,8 +49,11 @@ pub trait Threaded<P: GracePlan, K: ChainRule, D: Deleter, R> {
         &self,
         _rt: &R,
         _domain: &Domain<P, K, B, D>,
-        _first: &mut Handle<B>,
-    ) -> Result<(), Refusal> {
+        first: &mut Handle<B>,
+    ) -> Result<(), Refusal>
+        requires { (first.old.seat.me.0.seen ≡ []) × (first.old.seat.me.0.heard ≡ []) }
+        ensures { IfErr result (λ e. stops self.now e) }
+    {
         Ok(())
     }
 
@@ -56,5 +66,5 @@ pub trait Threaded<P: GracePlan, K: ChainRule, D: Deleter, R> {
         own: Handle<B>,
         number: usize,
     ) -> Self::Out
-        ensures { gives self.now number result };
+        ensures { gives self.now B.sizes number result };
 }

@@ -1,6 +1,6 @@
 //! How a thread reads, and gives its slot back whatever comes of it.
 
-ghost use Rattle.std.specs.Prelude.{ℕ, ⊤, IfErr, IfOk};
+ghost use Rattle.std.specs.Prelude.{ℕ, ⊤, ◌≡◌, true, IfErr, IfOk};
 ghost use Rattle.live_log.specs.Log.{Begins};
 ghost use Rattle.rcu.specs.Threads.{GivesBackASlot, IsNotRead};
 
@@ -18,7 +18,7 @@ pub trait Reading<P: GracePlan, K: ChainRule, D: Deleter, R> {
     /// nothing of it.
     ghost gives: { Self → Self.Out → ℕ → Type 0 } = { λ _ _ _. ⊤ };
 
-    /// Reads, with a registered reader that has nothing open.
+    /// Reads, with a registered reader that has nothing open, and is offline in the quiescent-state flavour.
     fn read<B: Site>(
         &self,
         rt: &R,
@@ -26,6 +26,7 @@ pub trait Reading<P: GracePlan, K: ChainRule, D: Deleter, R> {
         own: &mut Handle<B>,
         reader: &mut Reader<P, K, B>,
     ) -> Self::Out
+        requires { (reader.old.core.depth ≡ 0) × (reader.old.core.locks ≡ 0) × (P.QSBR ≡ true → reader.old.core.word ≡ 0) }
         ensures { gives self.now result reader.new.core.depth };
 }
 
@@ -46,7 +47,7 @@ pub fn with_reader<
 where
     F::Out: Drop,
     ensures answered { IfOk result (λ x. F.gives reading.now x 0) }
-    ensures freed { IfOk result (λ _. GivesBackASlot own.new.seat.me.0.looks) }
+    ensures freed { IfOk result (λ _. GivesBackASlot B.sizes own.new.seat.me.0.looks) }
     ensures refused { IfErr result (λ e. IsNotRead (F.gives reading.now) e B.sizes own.old.seat.me.0.looks own.new.seat.me.0.looks) }
     ensures heard { Begins own.old.seat.me.0.seen own.new.seat.me.0.heard × Begins own.old.seat.me.0.heard own.new.seat.me.0.heard }
 {

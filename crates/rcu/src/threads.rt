@@ -1,8 +1,9 @@
 //! How the threads of a program get a domain.
 
-ghost use Rattle.std.specs.Prelude.{◌≡◌, IfOk, vec_len};
+ghost use Rattle.std.specs.Prelude.{◌≡◌, ◌⊎◌, IfErr, IfOk, vec_len};
+ghost use Rattle.rcu_model.specs.declared.refusal.Refusal.TheVariants.{Memory};
 ghost use Rattle.rcu.specs.Naming.{Names};
-ghost use Rattle.rcu.specs.Threads.{EachGives};
+ghost use Rattle.rcu.specs.Threads.{EachGives, IsNotBegun, sizes_of};
 ghost use Rattle.std.specs.Thread.{IsSync};
 
 use crate::program::Threaded;
@@ -49,7 +50,8 @@ pub fn with_threads<
 where
     F::Out: Send + Drop,
     ensures each { IfOk result (λ e. (vec_len e.answers ≡ number) × (vec_len e.reclaimed ≡ config.queues)) }
-    ensures answered { IfOk result (λ e. EachGives (F.gives program.now) number e.answers.items) }
+    ensures answered { IfOk result (λ e. EachGives (F.gives program.now (sizes_of config)) number e.answers.items) }
+    ensures refused { IfErr result (λ e. IsNotBegun config (F.stops program.now) e) }
 {
     let opened = Opened::<P, K>::new(alloc, config)?;
     all::<Brand, P, K, D, R, F>(rt, alloc, opened, config.queues, number, program)
@@ -75,7 +77,8 @@ where
     F::Out: Send + Drop,
     requires { Names B.Site opened }
     ensures each { IfOk result (λ e. (vec_len e.answers ≡ number) × (vec_len e.reclaimed ≡ queues)) }
-    ensures answered { IfOk result (λ e. EachGives (F.gives program.now) number e.answers.items) }
+    ensures answered { IfOk result (λ e. EachGives (F.gives program.now B.sizes) number e.answers.items) }
+    ensures refused { IfErr result (λ e. (e ≡ Memory) ⊎ F.stops program.now e) }
 {
     let (domain, mut first) = opened.into_domain::<B, D>(alloc)?;
     program.begin::<B>(rt, &domain, &mut first)?;
@@ -89,14 +92,14 @@ where
         ||
             requires { IsSync R.row }
             ensures len { IfOk result (λ v. vec_len v ≡ number) }
-            ensures each { IfOk result (λ v. EachGives (F.gives program.entry.now) number v.items) }
+            ensures each { IfOk result (λ v. EachGives (F.gives program.entry.now B.sizes) number v.items) }
         {
             let answers = map_indices(
                 rt,
                 alloc,
                 number,
                 &|index|
-                    ensures { F.gives program.entry.now index result }
+                    ensures { F.gives program.entry.now B.sizes index result }
                 { program.part::<B>(rt, alloc, home, own(rt, home, from), index) },
             );
             home.close(rt, &mut *from.lock(rt));
@@ -122,7 +125,8 @@ where
 // What the workers of this number of queues will have reclaimed: memory for it is asked for before there are threads,
 // since the parts wait for their workers.
 fn none_yet(alloc: Global, queues: usize) -> Result<Vec<Result<u64, Refusal>>, Refusal>
-    ensures { IfOk result (λ v. vec_len v ≡ queues) }
+    ensures len { IfOk result (λ v. vec_len v ≡ queues) }
+    ensures memory { IfErr result (λ e. e ≡ Memory) }
 {
     let mut reclaimed = Vec::new(alloc);
     for _ in 0..queues {

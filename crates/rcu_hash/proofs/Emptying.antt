@@ -1,5 +1,5 @@
 -- What an earlier directory left is free once a grace period has been waited for, and no part of the table's map.
-use Rattle.rcu_hash.proofs.Cited.Words.{Gv, Bool, ◌≡◌, ◌≢◌, ◌⊎◌, ℕ, ◌+◌, ◌%◌, ◌^◌, ◌<◌, ◌≤◌, List, [], ◌∷◌, ◌++◌, append_assoc, Some, length, map, reverse, take, zero, slice_get, refl, sym, ap, ◌∙◌, subst, inl, inr, ⊎_elim, arith, ∥∥₁_elim, ∥∥₁_map, append-nil, map-append, reverse-append, mod_below, ObjectId, Refusal, In, without_object, Once, at_number_same, in_append, in_left, object_tells, LiveEvent, ChainNote, Close, Object, Cut, Queue, Replace, Retire, Falls, Log, Begins, Has, HaveEnded, IsLiveRun, chain_note, record_of, state_of, HasKey, IsDirectory, IsFree, IsNamed, reserved, tabled, begins_trans, chain_used, falls_cut, has_later, is_noted, kept_log, left_is_freed, linked_between, note_stays, run_of, tabled_maps, hold_at, Look, Stored, Sizes, View, AreAsKnown, IsListed, IsWriter, own_in, Queues, MakesMany, OnlyMakesLast, Stays, more_made, none_made, Ghosts, RefusesRetirement, MayPublish, list_in, KnowsKeys, directed_map, LeavesMap, Writes, bucket_of, FindsMore, AreFreed, Cuts, Clears, Does, Follow, HasWaited, IsLeft, IsRefused, Kind, Retires, Uses, WasReplaced, callbacks_by, callbacks_in, cleared_by, cleared_in, changes_in, objects_in, Each, HasKeysIn, HasNote, IsAlone, IsOutside, Naming, HasRight, LinksStill, length_of}
+use Rattle.rcu_hash.proofs.Cited.Words.{Gv, Bool, ◌≡◌, ◌≢◌, ◌⊎◌, ℕ, ◌+◌, ◌%◌, ◌^◌, ◌<◌, ◌≤◌, List, [], ◌∷◌, ◌++◌, append_assoc, Some, length, map, reverse, take, zero, slice_get, refl, sym, ap, ◌∙◌, subst, inl, inr, ⊎_elim, arith, ∥∥₁_elim, ∥∥₁_map, append-nil, map-append, reverse-append, mod_below, ObjectId, Refusal, In, without_object, Once, at_number_same, in_append, in_left, object_tells, LiveEvent, ChainNote, Close, Object, Cut, Queue, Replace, Retire, Falls, Log, Begins, Has, HaveEnded, IsLiveRun, chain_note, record_of, state_of, HasKey, IsDirectory, IsFree, IsNamed, reserved, tabled, begins_trans, chain_used, falls_cut, has_later, is_noted, kept_log, left_is_freed, linked_between, note_stays, run_of, tabled_maps, hold_at, Look, Loaded, Stored, Sizes, View, AreAsKnown, IsListed, IsWriter, own_in, Queues, MakesMany, OnlyMakesLast, Stays, more_made, none_made, Ghosts, RefusesRetirement, MayPublish, list_in, KnowsKeys, directed_map, LeavesMap, Writes, bucket_of, FindsMore, AreFreed, FindsFrees, OnlyFrees, Cuts, Clears, Does, Follow, HasWaited, IsLeft, IsRefused, Kind, Retires, Uses, WasReplaced, callbacks_by, callbacks_in, cleared_by, cleared_in, changes_in, objects_in, Each, HasKeysIn, HasNote, IsAlone, IsOutside, Naming, HasRight, LinksStill, length_of}
 use Rattle.rcu_hash.proofs.Directing.{map_same}
 use Rattle.rcu_hash.proofs.Holds.{each_last, note_listed}
 use Rattle.rcu_hash.proofs.Named.{directed_between, lent_used, unnamed, words_later}
@@ -115,6 +115,17 @@ module _ (qsbr : Bool) where
           unnamed (record_of log m.object) n.first n.buckets c (ap (λ (p : ObjectId). (record_of log p).1) (sym same) ∙ then) outside m.names in
           subst (λ (j : ℕ). tabled log (ChainNote j 0)) number (inr (free log on.after_caller.1 run known, inl (refl, none, no)))
 
+-- nothing was stored
+pub frees_nothing : (sizes : Sizes) → OnlyFrees sizes []
+frees_nothing sizes place word none = absurd none
+
+-- a chain was given back
+pub frees_chain : (sizes : Sizes) (c : ℕ) → c < sizes.chains → OnlyFrees sizes (Stored (hold_at sizes c) 0 ∷ [])
+frees_chain sizes c low place word h = ⊎_elim
+    (λ (is : Stored (hold_at sizes c) 0 ≡ Stored place word). let one : word ≡ 0 = cc in let two : place ≡ hold_at sizes c = cc in (one, (c, low, two)))
+    (λ none. absurd none)
+    h
+
 -- what a refused retirement tells
 module _ {W S : Type 0} (w : Ghosts W S) (qsbr : Bool) (allows : Log → LiveEvent → Type 0) (sizes : Sizes) (q : ℕ) (old new : W) (e : Refusal) (r : RefusesRetirement w qsbr allows sizes q old new e) where
   pub refused_why : IsRefused w new (λ n. n ≡ q) e
@@ -123,10 +134,16 @@ module _ {W S : Type 0} (w : Ghosts W S) (qsbr : Bool) (allows : Log → LiveEve
   pub refused_finds : FindsMore w old new
   refused_finds = (r.same.1, (_ ∷ [], r.looked))
 
+  pub refused_frees : FindsFrees w sizes old new
+  refused_frees = (r.same.1, (_ ∷ [], r.looked, λ place word h. ⊎_elim (λ is. cc) (λ none. absurd none) h))
+
 -- what goes on
 module _ {W S : Type 0} (w : Ghosts W S) where
-  pub makes_finds : (a b : W) (log : Log) → OnlyMakesLast w a b log → FindsMore w a b
-  makes_finds a b log m = (m.2, ([], m.1))
+  pub makes_frees : (sizes : Sizes) (a b : W) (log : Log) → OnlyMakesLast w a b log → FindsFrees w sizes a b
+  makes_frees sizes a b log m = (m.2, ([], m.1, frees_nothing sizes))
+
+  pub frees_finds : (sizes : Sizes) (a b : W) → FindsFrees w sizes a b → FindsMore w a b
+  frees_finds sizes a b f = (f.0, (f.1.0, f.1.1))
 
   pub finds_both : (a b c : W) → FindsMore w a b → FindsMore w b c → FindsMore w a c
   finds_both a b c x y = (y.0 ∙ x.0, (y.1.0 ++ x.1.0, y.1.1 ∙ (ap (λ (l : List Look). y.1.0 ++ l) x.1.1 ∙ sym (append_assoc y.1.0 x.1.0 (w.looks a)))))
@@ -193,8 +210,8 @@ module _ (qsbr : Bool) (allows : Log → LiveEvent → Type 0) (sizes : Sizes) (
       heard_on known at log ss (begins_trans known p.before at (begins_trans known heard p.before b p.after.1) (_ ∷ [], p.wrote)) f.1
 
   module _ {D W S : Type 0} (w : Ghosts W S) (code : D → Gv) where
-    pub uses_none : (a b : W) (jobs : List D) (heard log : Log) → Stays w a b → ((found : List Look) × (w.looks b ≡ found ++ w.looks a)) → Begins heard log → Uses qsbr allows sizes d seen w code a b jobs jobs heard log
-    uses_none a b jobs heard log stays more before = record { used = []; are = sym (append-nil jobs); steps = []; follow = before; callbacks = refl; made = none_made w a b stays; found = more.0; looks = more.1; freed = λ c none. absurd none }
+    pub uses_none : (a b : W) (jobs : List D) (heard log : Log) → Stays w a b → ((found : List Look) × (w.looks b ≡ found ++ w.looks a) × OnlyFrees sizes found) → Begins heard log → Uses qsbr allows sizes d seen w code a b jobs jobs heard log
+    uses_none a b jobs heard log stays more before = record { used = []; are = sym (append-nil jobs); steps = []; follow = before; callbacks = refl; made = none_made w a b stays; found = more.0; looks = more.1; freed = λ c none. absurd none; only = more.2 }
 
     pub uses_both : (a b c : W) (jobs mid left : List D) (heard then log : Log) → Uses qsbr allows sizes d seen w code a b jobs mid heard then → Uses qsbr allows sizes d seen w code b c mid left then log → Uses qsbr allows sizes d seen w code a c jobs left heard log
     uses_both a b c jobs mid left heard then log x y = record {
@@ -207,11 +224,12 @@ module _ (qsbr : Bool) (allows : Log → LiveEvent → Type 0) (sizes : Sizes) (
       found = y.found ++ x.found;
       looks = y.looks ∙ (ap (λ (l : List Look). y.found ++ l) x.looks ∙ sym (append_assoc y.found x.found (w.looks a)));
       freed = freed_both x.steps y.steps x.found y.found x.freed y.freed;
+      only = λ place word h. ⊎_elim (y.only place word) (x.only place word) (in_append y.found x.found (Stored place word) h);
     }
 
     -- one step
-    pub uses_step : (a b : W) (jobs left used : List D) (heard at log : Log) (k : Kind) (found : List Look) → jobs ≡ left ++ used → callbacks_in ((k, at) ∷ []) ≡ map code (reverse used) → MakesMany w a b (changes_in ((k, at) ∷ [])) → w.looks b ≡ found ++ w.looks a → AreFreed sizes (cleared_in ((k, at) ∷ [])) found → Does qsbr allows sizes d seen heard k at → Begins at log → Uses qsbr allows sizes d seen w code a b jobs left heard log
-    uses_step a b jobs left used heard at log k found are callbacks made looks freed does before = record { used = used; are = are; steps = (k, at) ∷ []; follow = (does, before); callbacks = callbacks; made = made; found = found; looks = looks; freed = freed }
+    pub uses_step : (a b : W) (jobs left used : List D) (heard at log : Log) (k : Kind) (found : List Look) → jobs ≡ left ++ used → callbacks_in ((k, at) ∷ []) ≡ map code (reverse used) → MakesMany w a b (changes_in ((k, at) ∷ [])) → w.looks b ≡ found ++ w.looks a → AreFreed sizes (cleared_in ((k, at) ∷ [])) found → OnlyFrees sizes found → Does qsbr allows sizes d seen heard k at → Begins at log → Uses qsbr allows sizes d seen w code a b jobs left heard log
+    uses_step a b jobs left used heard at log k found are callbacks made looks freed only does before = record { used = used; are = are; steps = (k, at) ∷ []; follow = (does, before); callbacks = callbacks; made = made; found = found; looks = looks; freed = freed; only = only }
 
 -- how many objects more chains have
 pub objects_both : (vs ws : List View) → objects_in (vs ++ ws) ≡ objects_in vs + objects_in ws

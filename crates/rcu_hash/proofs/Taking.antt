@@ -1,5 +1,5 @@
 -- What the keys of buckets tell that are taken one after the other.
-use Rattle.rcu_hash.proofs.Cited.Words.{◌≡◌, ◌≢◌, ◌⊎◌, ℕ, zero, ◌+◌, ◌%◌, ◌<◌, ◌≤◌, ◌==◌, Bool, false, if◌then◌else◌, List, [], ◌∷◌, ◌++◌, length, Some, slice_get, refl, sym, ap, ◌∙◌, append_assoc, subst, inl, inr, ⊎_elim, arith, cases_lt, dite, ℕ_discrete, In, in_append, in_left, LiveEvent, Log, Begins, begins_trans, hold_at, Look, Loaded, Stored, Sizes, IsAfter, Ghosts, value_among, During, FindsFree, FindsTaken, IsInUse, IsUnused, IsAmong, are_apart, Result, Err, IfErr, IfOk, Refusal, PoolFull, cell_at, last_at, stores_in, GetsNoRecord, TakesRecord, FreesAll, FreesAllBut, IsLeftZero, KeepsNone, nat_tests, common_steps, gets, Option}
+use Rattle.rcu_hash.proofs.Cited.Words.{◌≡◌, ◌≢◌, ◌⊎◌, ℕ, zero, ◌+◌, ◌%◌, ◌<◌, ◌≤◌, ◌==◌, Bool, false, if◌then◌else◌, List, [], ◌∷◌, ◌++◌, length, Some, slice_get, refl, sym, ap, ◌∙◌, append_assoc, subst, inl, inr, ⊎_elim, arith, cases_lt, dite, ℕ_discrete, In, in_append, in_left, LiveEvent, Log, Begins, begins_trans, hold_at, Look, Loaded, Stored, Sizes, IsAfter, Ghosts, value_among, During, FindsFree, FindsTaken, IsInUse, IsUnused, IsAmong, are_apart, Result, Err, IfErr, IfOk, Refusal, PoolFull, cell_at, last_at, stores_in, GetsNoRecord, TakesRecord, FreesAll, FreesAllBut, IsLeftZero, KeepsNone, OnlyFrees, nat_tests, common_steps, gets, Option}
 use Rattle.rcu_hash.proofs.Copies.{found_more, none_free}
 use Rattle.rcu_hash.proofs.Holds.{looks_both}
 
@@ -156,6 +156,12 @@ module _ (key : Sizes) where
   holds_free chains fits (Loaded a n ∷ found) holds i = holds_free chains fits found (λ x h. holds x (inr h)) i
   holds_free chains fits (Stored a n ∷ found) holds i = let k = holds (Stored a n) (inl refl) in let low = k.1 in let place = k.2 in
       inr (λ (same : a ≡ cell_at key i 0). omega (arith, fits, low, place, same), holds_free chains fits found (λ x h. holds x (inr h)) i)
+
+  pub only_free : (found : List Look) → OnlyFrees key found → FreesAll key found
+  only_free [] only i = tt
+  only_free (Loaded a n ∷ found) only i = only_free found (λ place word h. only place word (inr h)) i
+  only_free (Stored a n ∷ found) only i = let k = (only a n (inl refl)).1 in let low = k.1 in let place = k.2 in
+      inr (λ (same : a ≡ cell_at key i 0). omega (arith, low, place, same), only_free found (λ place word h. only place word (inr h)) i)
 
   -- the first record of some is freed
   pub frees_one : (cell : ℕ) (kept : List ℕ) (found : List Look) → FreesAllBut key (cell ∷ kept) found → FreesAllBut key kept (Stored (cell_at key cell 0) 0 ∷ found)

@@ -161,6 +161,14 @@ cleared_in (s ∷ ss) = cleared_by s.0 ++ cleared_in ss
 abbrev pub AreFreed : Sizes → List ℕ → List Look → Type 0
 AreFreed sizes chains found = (c : ℕ) → In chains c → In found (Stored (hold_at sizes c) 0)
 
+-- whatever was stored is 0 in the hold word of a chain: so no record was taken, and no chain
+abbrev pub OnlyFrees : Sizes → List Look → Type 0
+OnlyFrees sizes found = (place word : ℕ) → In found (Stored place word) → (word ≡ 0) × ((c : ℕ) × (c < sizes.chains) × (place ≡ hold_at sizes c))
+
+-- by looks, of which this is so, and nothing was loaded
+abbrev pub FindsFrees : {W S : Type 0} → Ghosts W S → Sizes → W → W → Type 0
+FindsFrees w sizes old new = (w.loads new ≡ w.loads old) × ((found : List Look) × (w.looks new ≡ found ++ w.looks old) × OnlyFrees sizes found)
+
 -- by the rule of chains, the sizes of the domain, the directory's chain, and what the caller had seen
 module _ (qsbr : Bool) (allows : Log → LiveEvent → Type 0) (sizes : Sizes) (d : ℕ) (seen : Log) where
   -- and by what it had heard of before the step
@@ -197,7 +205,7 @@ module _ (qsbr : Bool) (allows : Log → LiveEvent → Type 0) (sizes : Sizes) (
   Follow heard (s ∷ ss) log = Does heard s.0 s.1 × Follow s.1 ss log
 
   -- Steps that used these callbacks, by their codes: from the back, each retirement the next one. No change was made for
-  -- the caller but one for each cut and each note. Each chain that lost its note was given back.
+  -- the caller but one for each cut and each note. Each chain that lost its note was given back, and nothing was taken.
   pub record Uses {D W S : Type 0} (w : Ghosts W S) (code : D → Gv) (old new : W) (jobs left : List D) (heard log : Log) : Type 0 where
     pub used : List D
     pub are : jobs ≡ left ++ used
@@ -208,6 +216,7 @@ module _ (qsbr : Bool) (allows : Log → LiveEvent → Type 0) (sizes : Sizes) (
     pub found : List Look
     pub looks : w.looks new ≡ found ++ w.looks old
     pub freed : AreFreed sizes (cleared_in steps) found
+    pub only : OnlyFrees sizes found
 
 module _ {D W S : Type 0} (qsbr : Bool) (sizes : Sizes) (d : ℕ) (w : Ghosts W S) (code : D → Gv) (old new : W) (jobs left : List D) where
   -- in a call, after what its caller had heard of

@@ -14,7 +14,7 @@ ghost use Rattle.rcu_list.specs.live_rule.Rights.{object_in};
 ghost use Rattle.rcu_list.specs.live_read.Hearing.{IsAfter, MakesMany, OnlyHears, Stays};
 ghost use Rattle.rcu_list.specs.live_write.Chains.{list_in};
 ghost use Rattle.rcu_list.specs.domain.Waiting.{FindsMore};
-ghost use Rattle.rcu_hash.specs.Tidying.{ClearsNote, CountsLeft, EndsTidying, HasWaited, IsLeft, IsLinked, IsRecord, IsRefused, IsQueueAmong, IsRest, IsStopped, IsTidied, RetiresObject, StopsTidying, UsesUp, WasCleared, chains_in, numbers_of, objects_in};
+ghost use Rattle.rcu_hash.specs.Tidying.{ClearsNote, CountsLeft, EndsTidying, FindsFrees, HasWaited, IsLeft, IsLinked, IsRecord, IsRefused, IsQueueAmong, IsRest, IsStopped, IsTidied, RetiresObject, StopsTidying, UsesUp, WasCleared, chains_in, numbers_of, objects_in};
 ghost use Rattle.rcu_hash.specs.Writers.{AreFrom, Each, HasNothing};
 
 use crate::directory::{DirectoryLock, Naming};
@@ -87,7 +87,7 @@ impl<'d, P: GracePlan + Drop, B: Site, D: Deleter> DirectoryLock<'d, P, B, D> {
         ensures number { chain.new.number ≡ chain.old.number }
         ensures heard { Begins (W.heard caller.old) (W.heard caller.new) }
         ensures changes { IfOk result (λ _. MakesMany W.Caller caller.old caller.new 1) × IfErr result (λ _. Stays W.Caller caller.old caller.new) }
-        ensures same { FindsMore W.Caller caller.old caller.new }
+        ensures same { FindsFrees W.Caller B.sizes caller.old caller.new }
     {
         let domain = chain.domain();
         let (mut place, lent) = self.lend(rt, naming, chain);

@@ -8,13 +8,13 @@ pub loop-init : goal.loop-init
 loop-init g c = moves_none g.W.Caller g.P.GracePlan.QSBR g.B.Site.sizes c.args.self.now.table.directory (copied 2 g.row.F) c.args.caller.now
 
 pub returns-in-None-stop-clause-moves : goal.returns-in-None-stop-clause-moves
-returns-in-None-stop-clause-moves g c = moves_tidied g.W.Caller g.P.GracePlan.QSBR g.B.Site.sizes c.args.self.now.table.directory (copied 2 g.row.F) _ Moved c.args.caller.now c.loop.caller c.tidy-end.new.caller c.in_ok-moved.field-0.items c.tidy-end.result.jobs.items refl c.loop.invariant c.in_ok-moved.ensures.each c.tidy-end.ensures.tidied c.tidy-end.ensures.heard.after_heard c.tidy-end.ensures.same
+returns-in-None-stop-clause-moves g c = moves_tidied g.W.Caller g.P.GracePlan.QSBR g.B.Site.sizes c.args.self.now.table.directory (copied 2 g.row.F) _ Moved c.args.caller.now c.loop.caller c.tidy-end.new.caller c.in_ok-moved.field-0.items c.tidy-end.result.jobs.items refl c.loop.invariant c.in_ok-moved.ensures.each c.tidy-end.ensures.tidied c.tidy-end.ensures.heard.after_heard
 
 pub returns-in-Some-stop-clause-moves : goal.returns-in-Some-stop-clause-moves
-returns-in-Some-stop-clause-moves g c = moves_tidied g.W.Caller g.P.GracePlan.QSBR g.B.Site.sizes c.args.self.now.table.directory (copied 2 g.row.F) _ Moved c.args.caller.now c.loop.caller c.tidy-end.new.caller c.in_ok-moved.field-0.items c.tidy-end.result.jobs.items refl c.loop.invariant c.in_ok-moved.ensures.each c.tidy-end.ensures.tidied c.tidy-end.ensures.heard.after_heard c.tidy-end.ensures.same
+returns-in-Some-stop-clause-moves g c = moves_tidied g.W.Caller g.P.GracePlan.QSBR g.B.Site.sizes c.args.self.now.table.directory (copied 2 g.row.F) _ Moved c.args.caller.now c.loop.caller c.tidy-end.new.caller c.in_ok-moved.field-0.items c.tidy-end.result.jobs.items refl c.loop.invariant c.in_ok-moved.ensures.each c.tidy-end.ensures.tidied c.tidy-end.ensures.heard.after_heard
 
 pub loop-preserved : goal.loop-preserved
-loop-preserved g c = moves_tidied g.W.Caller g.P.GracePlan.QSBR g.B.Site.sizes c.args.self.now.table.directory (copied 2 g.row.F) _ Moved c.args.caller.now c.loop.caller c.tidy-end.new.caller c.in_ok-moved.field-0.items c.tidy-end.result.jobs.items refl c.loop.invariant c.in_ok-moved.ensures.each c.tidy-end.ensures.tidied c.tidy-end.ensures.heard.after_heard c.tidy-end.ensures.same
+loop-preserved g c = moves_tidied g.W.Caller g.P.GracePlan.QSBR g.B.Site.sizes c.args.self.now.table.directory (copied 2 g.row.F) _ Moved c.args.caller.now c.loop.caller c.tidy-end.new.caller c.in_ok-moved.field-0.items c.tidy-end.result.jobs.items refl c.loop.invariant c.in_ok-moved.ensures.each c.tidy-end.ensures.tidied c.tidy-end.ensures.heard.after_heard
 
 pub returns-in-Some-stop-clause-refused : goal.returns-in-Some-stop-clause-refused
 returns-in-Some-stop-clause-refused g c =

@@ -1,4 +1,4 @@
-use Rattle.rcu_hash.proofs.Cited.{tabled_maps, begins_trans, Log, Begins, IsLiveRun, chain_note, state_of, tabled, Object, Cut, HasRight, Writes, IsRefused, Naming, KnowsKeys, keys_on, by_result, by_second, if_err, if_ok, keys_cut, one_made, index_has, Queues, RefusesRetirement, lent_chains, ChainRight, own_in, list_in, at_number_other, without_object, ObjectId, ◌≡◌, ℕ, ◌+◌, ◌≤◌, [], ◌∷◌, ◌∙◌, ◌⊎◌, ◌%◌, ◌<◌, List, length, sym, ap, subst, arith, IfErr, some, one_fewer, listed_once, leaves_left, may_cut_left, refused_why, refused_finds, makes_finds, queued_later, IfErr-weaker, right_on}
+use Rattle.rcu_hash.proofs.Cited.{tabled_maps, begins_trans, Log, Begins, IsLiveRun, chain_note, state_of, tabled, Object, Cut, HasRight, Writes, IsRefused, Naming, KnowsKeys, keys_on, by_result, by_second, if_err, if_ok, keys_cut, one_made, index_has, Queues, RefusesRetirement, lent_chains, ChainRight, own_in, list_in, at_number_other, without_object, ObjectId, ◌≡◌, ℕ, ◌+◌, ◌≤◌, [], ◌∷◌, ◌∙◌, ◌⊎◌, ◌%◌, ◌<◌, List, length, sym, ap, subst, arith, IfErr, some, one_fewer, listed_once, leaves_left, may_cut_left, refused_why, refused_frees, makes_frees, queued_later, IfErr-weaker, right_on}
 use Rattle.rcu_hash.proofs.directory.DirectoryLock.retire_first.Given.{Over}
 use Rattle.rcu_hash.proofs.directory.DirectoryLock.retire_first.Goals.{After-cut_retire-answer}
 use Rattle.rcu_hash.proofs.directory.DirectoryLock.retire_first.Goals as goal
@@ -70,5 +70,5 @@ returns g c =
           (λ x k. queued_later q tabled (Begins log) k.object _ k.given _ (w.heard w0) (w.heard w2) k.queued (begins_trans (w.heard w0) log k.queued.before (begins_trans (w.heard w0) k.published.before log k.published.after.after_caller.1 (_ ∷ [], k.published.wrote)) k.queued.at))
           (λ x y. y.after.after_heard);
       changes = (if_ok result _ _ _ (λ x k z. one_made w w0 w2 log k.0.0) r.same r.retired, IfErr-weaker result _ _ (λ x y. y.same.0) why);
-      same = by_result result _ _ r.same why (λ x k. makes_finds w w0 w2 log k.0) (λ x y. refused_finds w q tabled sizes (three.number % sizes.queues) w0 w2 x.0 y);
+      same = by_result result _ _ r.same why (λ x k. makes_frees w sizes w0 w2 log k.0) (λ x y. refused_frees w q tabled sizes (three.number % sizes.queues) w0 w2 x.0 y);
     }

@@ -1,4 +1,4 @@
-use Rattle.rcu_hash.proofs.Cited.{begins_trans, has_since, Log, Begins, tabled, CountsLeft, IsRest, IsStopped, chains_in, numbers_of, IsLeft, Uses, IsRecord, IsQueueAmong, Each, lengths_of, rights_of, Naming, OnlyHears, Ghosts, Sizes, object_in, Unlinked, none_some, ◌≡◌, ℕ, [], ◌∙◌, ◌<◌, Bool, List, refl, sym, ap, subst, inl, inr, Option, map, ⊎_elim, option_map, IfSome, rules, Gv, numbers_are, only_both, counts_since, stopped_on, waited_later, heard_on, uses_none, uses_both, cleared_since, rest_less, rest_none, some_there, not_none, none_so, IfSome_then}
+use Rattle.rcu_hash.proofs.Cited.{begins_trans, has_since, Log, Begins, tabled, CountsLeft, IsRest, IsStopped, chains_in, numbers_of, IsLeft, Uses, IsRecord, IsQueueAmong, Each, lengths_of, rights_of, Naming, OnlyHears, Ghosts, Sizes, object_in, Unlinked, none_some, ◌≡◌, ℕ, [], ◌∙◌, ◌<◌, Bool, List, refl, sym, ap, subst, inl, inr, Option, map, ⊎_elim, option_map, IfSome, rules, Gv, numbers_are, only_both, counts_since, stopped_on, waited_later, heard_on, uses_none, uses_both, frees_nothing, cleared_since, rest_less, rest_none, some_there, not_none, none_so, IfSome_then}
 use Rattle.rcu_hash.proofs.table.RcuHash.retire_behind.Goals as goal
 
 pub retire_left-answer-requires : goal.retire_left-answer-requires
@@ -49,8 +49,8 @@ set_down-old-requires g c =
 used : {D W S : Type 0} (w : Ghosts W S) (code : D → Gv) (q : Bool) (sizes : Sizes) (d : ℕ) (w0 w1 w2 w4 : W) (jobs left : List D) → OnlyHears w w0 w1 → Begins (w.heard w0) (w.heard w1) → Uses q tabled sizes d (w.seen w1) w code w1 w2 jobs left (w.heard w1) (w.heard w2) → OnlyHears w w2 w4 → Begins (w.heard w2) (w.heard w4) → Uses q tabled sizes d (w.seen w0) w code w0 w4 jobs left (w.heard w0) (w.heard w4)
 used w code q sizes d w0 w1 w2 w4 jobs left before b uses after k =
     let own = subst (λ (s : Log). Uses q tabled sizes d s w code w1 w2 jobs left (w.heard w1) (w.heard w2)) before.0.0.0 uses in
-    uses_both q tabled sizes d (w.seen w0) w code w0 w1 w4 jobs jobs left (w.heard w0) (w.heard w1) (w.heard w4) (uses_none q tabled sizes d (w.seen w0) w code w0 w1 jobs (w.heard w0) (w.heard w1) before.0.0 ([], before.0.1) b)
-    (uses_both q tabled sizes d (w.seen w0) w code w1 w2 w4 jobs left left (w.heard w1) (w.heard w2) (w.heard w4) own (uses_none q tabled sizes d (w.seen w0) w code w2 w4 left (w.heard w2) (w.heard w4) after.0.0 ([], after.0.1) k))
+    uses_both q tabled sizes d (w.seen w0) w code w0 w1 w4 jobs jobs left (w.heard w0) (w.heard w1) (w.heard w4) (uses_none q tabled sizes d (w.seen w0) w code w0 w1 jobs (w.heard w0) (w.heard w1) before.0.0 ([], before.0.1, frees_nothing sizes) b)
+    (uses_both q tabled sizes d (w.seen w0) w code w1 w2 w4 jobs left left (w.heard w1) (w.heard w2) (w.heard w4) own (uses_none q tabled sizes d (w.seen w0) w code w2 w4 left (w.heard w2) (w.heard w4) after.0.0 ([], after.0.1, frees_nothing sizes) k))
 
 pub returns-in-Ok-clause-uses : goal.returns-in-Ok-clause-uses
 returns-in-Ok-clause-uses g c =

@@ -1,4 +1,4 @@
-use Rattle.rcu_hash.proofs.Cited.{begins_trans, Log, Begins, tabled, CountsLeft, IsStopped, numbers_of, Uses, IsTidied, IsQueueAmong, stays_both, LoadedOnce, Synchronized, FindsNothing, Look, ◌≡◌, ℕ, [], ◌∷◌, ◌∙◌, ◌<◌, ◌++◌, List, refl, sym, ap, subst, inl, inr, append_assoc, IfNone, append-nil, counts_since, heard_on, uses_none, uses_both, ended_since, loaded_since, IfSome_then}
+use Rattle.rcu_hash.proofs.Cited.{begins_trans, Log, Begins, tabled, CountsLeft, IsStopped, numbers_of, Uses, IsTidied, IsQueueAmong, stays_both, LoadedOnce, Synchronized, FindsNothing, Look, ◌≡◌, ℕ, [], ◌∷◌, ◌∙◌, ◌<◌, ◌++◌, List, refl, sym, ap, subst, inl, inr, append_assoc, IfNone, append-nil, counts_since, heard_on, uses_none, uses_both, frees_nothing, ended_since, loaded_since, IfSome_then}
 use Rattle.rcu_hash.proofs.table.RcuHash.tidy.Goals as goal
 
 pub returns-in_default-clause-heard : goal.returns-in_default-clause-heard
@@ -95,7 +95,7 @@ returns-in-Ok g c =
         waited = w.heard w3;
         ended = subst (λ (l : List Log). Synchronized q tabled (w.seen w0) (w.heard w0) (i.waits.0 ++ w.loads w0) l (w.heard w3)) (sym r.0) waited;
         uses = uses_both q tabled sizes d (w.seen w0) w code w0 w3 w4 jobs jobs left (w.heard w3) (w.heard w3) (w.heard w4)
-            (uses_none q tabled sizes d (w.seen w0) w code w0 w3 jobs (w.heard w3) (w.heard w3) stays ([], found) ([], refl))
+            (uses_none q tabled sizes d (w.seen w0) w code w0 w3 jobs (w.heard w3) (w.heard w3) stays ([], found, frees_nothing sizes) ([], refl))
             (subst (λ (l : Log). Uses q tabled sizes d l w code w3 w4 jobs left (w.heard w3) (w.heard w4)) stays.0 rest);
       });
       done = subst (λ (n : ℕ). IfNone end.stop ((end.left ≡ 0) × IsTidied n (w.heard w4))) its e.done;
