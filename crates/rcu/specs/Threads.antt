@@ -1,8 +1,8 @@
 -- What programs and their threads answer.
-use Rattle.std.specs.Prelude.{ℕ, ◌<◌, ◌≡◌, ◌⊎◌, List, slice_index_or}
+use Rattle.std.specs.Prelude.{true, ℕ, ◌<◌, ◌≡◌, ◌⊎◌, List, slice_index_or}
 use Rattle.rcu_model.specs.declared.refusal.Refusal.{Refusal}
 use Rattle.rcu_model.specs.declared.refusal.Refusal.TheVariants.{Busy, NoSlot}
-use Rattle.rcu_hash.specs.domain.Config.{new_refusal}
+use Rattle.rcu_hash.specs.domain.Config.{is_supported, new_refusal}
 use Rattle.rcu_hash.specs.domain.declared.config.LiveConfig.{LiveConfig}
 use Rattle.rcu_hash.specs.live_read.Registering.{FindsAllClaimed, LeavesFree}
 use Rattle.rcu_hash.specs.live_rule.declared.view.Sizes.{Sizes}
@@ -12,9 +12,9 @@ use Rattle.rcu_hash.specs.live_rule.declared.view.Look.{Look}
 abbrev pub sizes_of : LiveConfig → Sizes
 sizes_of c = record { slots = c.slots; chains = c.chains; queues = c.queues; pool = c.pool }
 
--- no thread has answered: the domain was not made, there was no memory, or what comes before the threads stopped so
+-- a size is out of its limits; or else memory was refused, or what comes before the threads was
 abbrev pub IsNotBegun : LiveConfig → (Refusal → Type 0) → Refusal → Type 0
-IsNotBegun config stops e = (e ≡ new_refusal config) ⊎ stops e
+IsNotBegun config stops e = (e ≡ new_refusal config) ⊎ ((is_supported config ≡ true) × stops e)
 
 -- each of the first n elements is what may be answered at its place
 abbrev pub EachGives : {X : Type 0} → (ℕ → X → Type 0) → ℕ → List X → Type 0

@@ -1,8 +1,8 @@
 //! How a program gets a domain.
 
-ghost use Rattle.std.specs.Prelude.{◌≡◌, IfErr, IfOk};
+ghost use Rattle.std.specs.Prelude.{◌≡◌, IfErr, IfOk, true};
 ghost use Rattle.rcu_model.specs.declared.refusal.Refusal.TheVariants.{Memory};
-ghost use Rattle.rcu_hash.specs.domain.Config.{new_refusal};
+ghost use Rattle.rcu_hash.specs.domain.Config.{is_supported, new_refusal};
 ghost use Rattle.rcu.specs.Naming.{Names};
 ghost use Rattle.rcu.specs.Threads.{sizes_of};
 
@@ -23,6 +23,7 @@ pub fn with_domain<P: GracePlan + Drop, K: ChainRule, D: Deleter, R, F: Program<
     config: LiveConfig,
     program: F,
 ) -> Result<F::Out, (Refusal, F)>
+    ensures supported { IfOk result (λ _. is_supported config ≡ true) }
     ensures answered { IfOk result (λ x. F.gives program (sizes_of config) x) }
     ensures refused { IfErr result (λ e. (e.0 ≡ new_refusal config) × (e.1 ≡ program)) }
 {

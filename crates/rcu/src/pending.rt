@@ -4,6 +4,7 @@ ghost use Rattle.std.specs.Prelude.{◌≡◌, ◌≤◌, ◌^◌, ◌↔◌, If
 ghost use Rattle.poll_cookie.specs.Cookie.{cookie_for};
 ghost use Rattle.rcu_model.specs.declared.refusal.Refusal.TheVariants.{Exhausted};
 ghost use Rattle.live_log.specs.Log.{Begins, HaveEnded, seq_of};
+ghost use Rattle.rcu_hash.specs.domain.Waiting.{LoadedOnce};
 ghost use Rattle.rcu_hash.specs.live_read.Hearing.{FindsNothing, IsAfter};
 ghost use Rattle.rcu.specs.Logs.{log_set};
 
@@ -61,7 +62,7 @@ impl<B: Site, T: Drop> PendingOf<LiveCookie, Handle<B>, T> {
         ensures made { IfOk result (λ p. (p.value ≡ value) × (p.cookie.asked.value.me.0.seen ≡ W.heard caller.new)) }
         ensures cookie { IfOk result (λ p. cookie_for (seq_of (W.heard caller.new)) ≡ Ok p.cookie.cookie) }
         ensures refused { IfErr result (λ e. (e.0 ≡ Exhausted) × (e.1 ≡ value) × (2 ^ 62 ≤ seq_of (W.heard caller.new))) }
-        ensures heard { IsAfter P.QSBR K.allows (W.seen caller.old) (W.heard caller.old) (W.heard caller.new) }
+        ensures loaded { LoadedOnce P.QSBR K.allows (W.seen caller.old) (W.heard caller.old) (W.loads caller.old) (W.loads caller.new) (W.heard caller.new) }
         ensures same { FindsNothing W.Caller caller.old caller.new }
     {
         match domain.start_poll(caller) {

@@ -40,8 +40,8 @@ pub trait Threaded<P: GracePlan, K: ChainRule, D: Deleter, R> {
     /// of it.
     ghost gives: { Self → Sizes → ℕ → Self.Out → Type 0 } = { λ _ _ _ _. ⊤ };
 
-    /// What `begin` may be refused by. A program that leaves this out says nothing of it.
-    ghost stops: { Self → Refusal → Type 0 } = { λ _ _. ⊤ };
+    /// What `begin` may be refused by over a domain of these sizes. A program that leaves this out says nothing of it.
+    ghost stops: { Self → Sizes → Refusal → Type 0 } = { λ _ _ _. ⊤ };
 
     /// What is done before there are threads, over a domain with no reader, whose first handle has seen nothing yet.
     /// Each thread has seen all that was done here. Where it is refused no thread starts.
@@ -52,7 +52,7 @@ pub trait Threaded<P: GracePlan, K: ChainRule, D: Deleter, R> {
         first: &mut Handle<B>,
     ) -> Result<(), Refusal>
         requires { (first.old.seat.me.0.seen ≡ []) × (first.old.seat.me.0.heard ≡ []) }
-        ensures { IfErr result (λ e. stops self.now e) }
+        ensures { IfErr result (λ e. stops self.now B.sizes e) }
     {
         Ok(())
     }

@@ -34,7 +34,7 @@ pub trait Reading<P: GracePlan, K: ChainRule, D: Deleter, R> {
 /// answers. The handle hears of all that it had seen and heard of, whatever the reading did with it. A part of
 /// `with_threads` that reads calls it.
 ///
-/// Refused with `NoSlot` only where the bit of every slot was found set, and then nothing was read. Refused with `Busy`
+/// Refused with `NoSlot` only where the bit of every slot was found set; then it did not read. Refused with `Busy`
 /// where the reading left a section or a lock open; then the slot stays claimed.
 pub fn with_reader<
     P: GracePlan + Drop,

@@ -1,7 +1,8 @@
 //! How the threads of a program get a domain.
 
-ghost use Rattle.std.specs.Prelude.{◌≡◌, ◌⊎◌, IfErr, IfOk, vec_len};
+ghost use Rattle.std.specs.Prelude.{◌≡◌, ◌⊎◌, IfErr, IfOk, true, vec_len};
 ghost use Rattle.rcu_model.specs.declared.refusal.Refusal.TheVariants.{Memory};
+ghost use Rattle.rcu_hash.specs.domain.Config.{is_supported};
 ghost use Rattle.rcu.specs.Naming.{Names};
 ghost use Rattle.rcu.specs.Threads.{EachGives, IsNotBegun, sizes_of};
 ghost use Rattle.std.specs.Thread.{IsSync};
@@ -32,7 +33,7 @@ pub struct Ended<T> {
 /// When all threads have returned the domain is closed, and the workers run what is left. Where the system makes too few
 /// threads, what waits for another one waits for ever.
 ///
-/// Refused with `BadConfig` where a size is out of its limits, as `begin` is, and with `Memory` where memory is
+/// Refused with `BadConfig` where a size is out of its limits, else as `begin` is, or with `Memory` where memory is
 /// refused.
 pub fn with_threads<
     P: GracePlan + Drop + Send + Sync,
@@ -49,9 +50,10 @@ pub fn with_threads<
 ) -> Result<Ended<F::Out>, Refusal>
 where
     F::Out: Send + Drop,
+    ensures supported { IfOk result (λ _. is_supported config ≡ true) }
     ensures each { IfOk result (λ e. (vec_len e.answers ≡ number) × (vec_len e.reclaimed ≡ config.queues)) }
     ensures answered { IfOk result (λ e. EachGives (F.gives program.now (sizes_of config)) number e.answers.items) }
-    ensures refused { IfErr result (λ e. IsNotBegun config (F.stops program.now) e) }
+    ensures refused { IfErr result (λ e. IsNotBegun config (F.stops program.now (sizes_of config)) e) }
 {
     let opened = Opened::<P, K>::new(alloc, config)?;
     all::<Brand, P, K, D, R, F>(rt, alloc, opened, config.queues, number, program)
@@ -78,7 +80,7 @@ where
     requires { Names B.Site opened }
     ensures each { IfOk result (λ e. (vec_len e.answers ≡ number) × (vec_len e.reclaimed ≡ queues)) }
     ensures answered { IfOk result (λ e. EachGives (F.gives program.now B.sizes) number e.answers.items) }
-    ensures refused { IfErr result (λ e. (e ≡ Memory) ⊎ F.stops program.now e) }
+    ensures refused { IfErr result (λ e. (e ≡ Memory) ⊎ F.stops program.now B.sizes e) }
 {
     let (domain, mut first) = opened.into_domain::<B, D>(alloc)?;
     program.begin::<B>(rt, &domain, &mut first)?;
