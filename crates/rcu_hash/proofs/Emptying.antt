@@ -1,5 +1,5 @@
 -- What an earlier directory left is free once a grace period has been waited for, and no part of the table's map.
-use Rattle.rcu_hash.proofs.Cited.Words.{Gv, Bool, ◌≡◌, ◌≢◌, ◌⊎◌, ℕ, ◌+◌, ◌%◌, ◌^◌, ◌<◌, ◌≤◌, List, [], ◌∷◌, ◌++◌, append_assoc, Some, length, map, reverse, take, zero, slice_get, refl, sym, ap, ◌∙◌, subst, inl, inr, ⊎_elim, arith, ∥∥₁_elim, ∥∥₁_map, append-nil, map-append, reverse-append, mod_below, ObjectId, Refusal, In, without_object, Once, at_number_same, in_append, in_left, object_tells, LiveEvent, ChainNote, Close, Object, Cut, Queue, Replace, Retire, Falls, Log, Begins, Has, HaveEnded, IsLiveRun, chain_note, record_of, state_of, HasKey, IsDirectory, IsFree, IsNamed, reserved, tabled, begins_trans, chain_used, falls_cut, has_later, is_noted, kept_log, left_is_freed, linked_between, note_stays, run_of, tabled_maps, hold_at, Look, Loaded, Stored, Sizes, View, AreAsKnown, IsListed, IsWriter, own_in, Queues, MakesMany, OnlyMakesLast, Stays, more_made, none_made, Ghosts, RefusesRetirement, MayPublish, list_in, KnowsKeys, directed_map, LeavesMap, Writes, bucket_of, FindsMore, AreFreed, FindsFrees, OnlyFrees, Cuts, Clears, Does, Follow, HasWaited, IsLeft, IsRefused, Kind, Retires, Uses, WasReplaced, callbacks_by, callbacks_in, cleared_by, cleared_in, changes_in, objects_in, Each, HasKeysIn, HasNote, IsAlone, IsOutside, Naming, HasRight, LinksStill, length_of}
+use Rattle.rcu_hash.proofs.Cited.Words.{Gv, Bool, ◌≡◌, ◌≢◌, ◌⊎◌, ℕ, ◌+◌, ◌%◌, ◌^◌, ◌<◌, ◌≤◌, List, [], ◌∷◌, ◌++◌, append_assoc, Some, length, map, reverse, take, slice_get, refl, sym, ap, ◌∙◌, subst, inl, inr, ⊎_elim, arith, ∥∥₁_elim, ∥∥₁_map, append-nil, map-append, reverse-append, mod_below, ObjectId, Refusal, In, without_object, Once, at_number_same, in_append, in_left, object_tells, LiveEvent, ChainNote, Close, Object, Cut, Queue, Replace, Retire, Falls, Log, Begins, Has, HaveEnded, IsLiveRun, chain_note, record_of, state_of, HasKey, IsDirectory, IsFree, IsNamed, reserved, tabled, begins_trans, chain_used, falls_cut, has_later, is_noted, kept_log, left_is_freed, linked_between, note_stays, run_of, tabled_maps, hold_at, Look, Stored, Sizes, View, AreAsKnown, IsListed, IsWriter, own_in, Queues, MakesMany, OnlyMakesLast, Stays, more_made, none_made, Ghosts, RefusesRetirement, MayPublish, list_in, KnowsKeys, directed_map, LeavesMap, Writes, bucket_of, FindsMore, AreFreed, FindsFrees, OnlyFrees, Cuts, Clears, Does, Follow, HasWaited, IsLeft, IsRefused, Kind, Retires, Uses, WasReplaced, callbacks_by, callbacks_in, cleared_by, cleared_in, changes_in, objects_in, Each, HasKeysIn, HasNote, IsAlone, IsOutside, Naming, HasRight, LinksStill, length_of}
 use Rattle.rcu_hash.proofs.Directing.{map_same}
 use Rattle.rcu_hash.proofs.Holds.{each_last, note_listed}
 use Rattle.rcu_hash.proofs.Named.{directed_between, lent_used, unnamed, words_later}

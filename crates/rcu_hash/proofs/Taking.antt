@@ -1,5 +1,5 @@
 -- What the keys of buckets tell that are taken one after the other.
-use Rattle.rcu_hash.proofs.Cited.Words.{◌≡◌, ◌≢◌, ◌⊎◌, ℕ, zero, ◌+◌, ◌%◌, ◌<◌, ◌≤◌, ◌==◌, Bool, false, if◌then◌else◌, List, [], ◌∷◌, ◌++◌, length, Some, slice_get, refl, sym, ap, ◌∙◌, append_assoc, subst, inl, inr, ⊎_elim, arith, cases_lt, dite, ℕ_discrete, In, in_append, in_left, LiveEvent, Log, Begins, begins_trans, hold_at, Look, Loaded, Stored, Sizes, IsAfter, Ghosts, value_among, During, FindsFree, FindsTaken, IsInUse, IsUnused, IsAmong, are_apart, Result, Err, IfErr, IfOk, Refusal, PoolFull, cell_at, last_at, stores_in, GetsNoRecord, TakesRecord, FreesAll, FreesAllBut, IsLeftZero, KeepsNone, OnlyFrees, nat_tests, common_steps, gets, Option}
+use Rattle.rcu_hash.proofs.Cited.Words.{◌≡◌, ◌≢◌, ℕ, ◌+◌, ◌%◌, ◌<◌, ◌≤◌, ◌==◌, Bool, false, if◌then◌else◌, List, [], ◌∷◌, ◌++◌, length, Some, slice_get, refl, sym, ap, ◌∙◌, append_assoc, subst, inl, inr, ⊎_elim, arith, cases_lt, dite, ℕ_discrete, In, in_append, in_left, LiveEvent, Log, Begins, begins_trans, hold_at, Look, Loaded, Stored, Sizes, IsAfter, Ghosts, value_among, During, FindsFree, FindsTaken, IsInUse, IsUnused, IsAmong, are_apart, Result, Err, IfErr, IfOk, Refusal, PoolFull, cell_at, last_at, stores_in, GetsNoRecord, TakesRecord, FreesAll, FreesAllBut, IsLeftZero, KeepsNone, OnlyFrees, nat_tests, common_steps, gets, Option}
 use Rattle.rcu_hash.proofs.Copies.{found_more, none_free}
 use Rattle.rcu_hash.proofs.Holds.{looks_both}
 

@@ -13,8 +13,9 @@ use Rattle.rcu_list.specs.Calls.{HandsOver}
 use Rattle.rcu_hash.specs.Directories.{buckets_in}
 use Rattle.rcu_hash.specs.Growing.{Grows, HasLeft}
 use Rattle.rcu_hash.specs.Publishing.{InsertsThrough, RemovesThrough, ReplacesThrough}
-use Rattle.rcu_hash.specs.Refusing.{FindsTaken}
+use Rattle.rcu_hash.specs.Refusing.{During, FindsTaken}
 use Rattle.rcu_hash.specs.Tables.{IsAmong, fits}
+use Rattle.rcu_hash.specs.Tidying.{IsTidied}
 
 -- of a table whose directory is in chain d
 module _ {W S : Type 0} (w : Ghosts W S) (qsbr : Bool) (sizes : Sizes) (old new : W) (d : ℕ) where
@@ -36,10 +37,15 @@ module _ {W S : Type 0} (w : Ghosts W S) (qsbr : Bool) (sizes : Sizes) (old new 
   IsGrown first buckets left = (entries : List (ℕ × ℕ)) × (g : Grows qsbr tabled sizes.chains d (w.seen old) (w.heard old) first buckets entries (w.heard new)) × (left ≡ length entries + 1) × (fits sizes.chains d first buckets ≡ true)
       × MakesMany w old new (length entries + buckets + buckets_in (record_of g.left g.old) + 1)
 
-  -- a new table is refused: a chain is not there, or was taken, or there was no memory or no record
-  abbrev pub IsNotMade : (first buckets : ℕ) → Refusal → Type 0
-  IsNotMade first buckets e = ((e ≡ BadConfig) × ((fits sizes.chains d first buckets ≡ false) ⊎ FindsTaken w qsbr tabled old new sizes (λ c. (c ≡ d) ⊎ IsAmong first buckets c))) ⊎ ((fits sizes.chains d first buckets ≡ true) × ((e ≡ Memory) ⊎ (e ≡ PoolFull)))
+  -- one of these chains is not there, or was taken; or there was no memory or no record
+  abbrev pub RefusesChains : (is_one : ℕ → Type 0) (first buckets : ℕ) → Refusal → Type 0
+  RefusesChains is_one first buckets e = ((e ≡ BadConfig) × ((fits sizes.chains d first buckets ≡ false) ⊎ FindsTaken w qsbr tabled old new sizes is_one)) ⊎ ((fits sizes.chains d first buckets ≡ true) × ((e ≡ Memory) ⊎ (e ≡ PoolFull)))
 
-  -- a growth is refused: something is left of an earlier one, or as a new table is
+  -- a new table is refused
+  abbrev pub IsNotMade : (first buckets : ℕ) → Refusal → Type 0
+  IsNotMade first buckets = RefusesChains (λ c. (c ≡ d) ⊎ IsAmong first buckets c) first buckets
+
+  -- A growth is refused: something is left of an earlier one. Or nothing was left in some log of the call, and it is
+  -- refused as a new table is.
   abbrev pub IsNotGrown : (first buckets : ℕ) → Refusal → Type 0
-  IsNotGrown first buckets e = ((e ≡ Busy) × HasLeft d (w.heard new) × IsAfter qsbr tabled (w.seen old) (w.heard old) (w.heard new)) ⊎ (((e ≡ BadConfig) × ((fits sizes.chains d first buckets ≡ false) ⊎ FindsTaken w qsbr tabled old new sizes (IsAmong first buckets))) ⊎ ((fits sizes.chains d first buckets ≡ true) × ((e ≡ Memory) ⊎ (e ≡ PoolFull))))
+  IsNotGrown first buckets e = ((e ≡ Busy) × HasLeft d (w.heard new) × IsAfter qsbr tabled (w.seen old) (w.heard old) (w.heard new)) ⊎ (During w qsbr tabled old new (IsTidied d) × RefusesChains (IsAmong first buckets) first buckets e)

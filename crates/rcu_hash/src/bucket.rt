@@ -1,6 +1,6 @@
 //! A bucket of a table: a chain of keys, and which directory names it.
 
-ghost use Rattle.std.specs.Prelude.{◌≡◌, ◌%◌, ◌+◌, ◌<◌, ◌≤◌, ℕ, IfErr, IfOk};
+ghost use Rattle.std.specs.Prelude.{◌≡◌, ◌%◌, ◌+◌, ◌-◌, ◌<◌, ◌≤◌, ℕ, IfErr, IfOk};
 ghost use Rattle.rcu_model.specs.declared.event.ObjectId.{ObjectId};
 ghost use Rattle.live_log.specs.Log.{Begins, Log};
 ghost use Rattle.live_log.specs.Tables.{tabled};
@@ -14,6 +14,7 @@ ghost use Rattle.rcu_hash.specs.Refusing.{RefusesInsertionThrough, RefusesRemova
 ghost use Rattle.rcu_hash.specs.Tables.{bucket_of};
 
 use crate::directory::Naming;
+use crate::labelled::Labelled;
 use gp_memb::GracePlan;
 use live_log::Tabled;
 use rcu_list::{Caller, Chain, Deleter, Site, Ticket, prepare_insertion, prepare_replacement};
@@ -27,6 +28,15 @@ pub(crate) struct Bucket<'d, P: GracePlan, B: Site, D: Drop> {
     pub(crate) naming: Naming,
     pub(crate) ghost is: { IsBucket naming chain.seat.me.0 },
     pub(crate) ghost fits: { (0 < naming.buckets) × (naming.first + naming.buckets ≤ B.sizes.chains) },
+}
+
+/// Its directory, and its place among the buckets of that.
+impl<P: GracePlan, B: Site, D: Deleter> Labelled<(Naming, usize)> for Bucket<'_, P, B, D> {
+    ghost label = { λ bucket. (bucket.naming, bucket.chain.number - bucket.naming.first) };
+
+    fn has_label(&self, wanted: (Naming, usize)) -> bool {
+        self.naming.is(wanted.0) && self.chain.number() - self.naming.first == wanted.1
+    }
 }
 
 impl<'d, P: GracePlan + Drop, B: Site, D: Deleter> Bucket<'d, P, B, D> {

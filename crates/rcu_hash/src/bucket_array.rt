@@ -5,6 +5,7 @@ ghost use Rattle.rcu_model.specs.declared.refusal.Refusal.TheVariants.{Memory};
 
 use crate::bucket::Bucket;
 use crate::directory::Naming;
+use crate::labelled::take;
 use crossbeam_utils::sync::ShardedLock;
 use gp_memb::GracePlan;
 use rcu_list::{Deleter, Site};
@@ -60,17 +61,6 @@ impl<'d, P: GracePlan + Drop, B: Site, D: Deleter> BucketArray<'d, P, B, D> {
         requires { number < self.now.naming.buckets }
         ensures { (result.1.naming ≡ self.now.naming) × (result.1.chain.number ≡ self.now.naming.first + number) }
     {
-        for _ in rt.forever() {
-            let mut place = self.buckets[number].lock(rt);
-            if let Some(bucket) = place.take() {
-                if bucket.naming.is(self.naming)
-                    && bucket.chain.number() == self.naming.first + number
-                {
-                    return (place, bucket);
-                }
-                *place = Some(bucket);
-            }
-        }
-        unreachable!()
+        take(rt, &self.buckets[number], (self.naming, number))
     }
 }

@@ -13,6 +13,7 @@ ghost use Rattle.rcu_hash.specs.Tables.{IsAmong};
 ghost use Rattle.rcu_hash.specs.Tidying.{IsLeft, IsLinked};
 ghost use Rattle.rcu_hash.specs.Writers.{HasKeysIn, HasNote, IsOutside};
 
+use crate::labelled::{Labelled, take};
 use gp_memb::GracePlan;
 use live_log::Tabled;
 use rcu_list::{Caller, Chain, Deleter, Lent, Site};
@@ -92,6 +93,14 @@ impl<'d, P: GracePlan + Drop, B: Site, D: Deleter> Directory<'d, P, B, D> {
     }
 }
 
+impl<P: GracePlan, B: Site, D: Drop> Labelled<Naming> for Directory<'_, P, B, D> {
+    ghost label = { λ directory. directory.naming };
+
+    fn has_label(&self, wanted: Naming) -> bool {
+        self.naming.is(wanted)
+    }
+}
+
 /// A directory's writer under its lock; none while another thread has lent it, which holds the lock then.
 #[derive(Drop)]
 pub(crate) struct DirectoryLock<'d, P: GracePlan, B: Site, D: Drop> {
@@ -110,16 +119,7 @@ impl<'d, P: GracePlan + Drop, B: Site, D: Deleter> DirectoryLock<'d, P, B, D> {
     )
         ensures { result.1.naming ≡ naming }
     {
-        for _ in rt.forever() {
-            let mut lock = self.writer.lock(rt);
-            if let Some(directory) = lock.take() {
-                if directory.naming.is(naming) {
-                    return (lock, directory);
-                }
-                *lock = Some(directory);
-            }
-        }
-        unreachable!()
+        take(rt, &self.writer, naming)
     }
 
     /// Lends its right to the writer of a chain that an earlier directory named, for one step, while the lock is held. It

@@ -184,6 +184,7 @@ impl<'d, P: GracePlan + Drop, B: Site, D: Deleter> RcuHash<'d, P, B, D> {
         if left.chains.len() != 0 {
             return (left.hear(rt, &self.lock, caller), Err(Refusal::Busy));
         }
+        let left = left.tell(rt, &self.lock, caller);
         if !fits(self.domain.chains(), self.directory, first, buckets) {
             return (left, Err(Refusal::BadConfig));
         }
@@ -191,10 +192,8 @@ impl<'d, P: GracePlan + Drop, B: Site, D: Deleter> RcuHash<'d, P, B, D> {
         let (mut place, mut array) = self.own_array(rt, old);
         if !are_apart(old, first, buckets) {
             *place = Some(array);
-            self.lock.hear(rt, old, caller);
             return (left, Err(Refusal::BadConfig));
         }
-        let left = left.tell(rt, &self.lock, caller);
         let growth = match Growth::ready(rt, alloc, self.domain, &array, caller, first, buckets) {
             Ok(growth) => growth,
             Err(refusal) => {
@@ -221,7 +220,8 @@ impl<'d, P: GracePlan + Drop, B: Site, D: Deleter> RcuHash<'d, P, B, D> {
     /// directory came. liburcu's `cds_lfht_resize`.
     ///
     /// Refused with `Busy` where something is left from an earlier growth, and then the caller hears of a log in which
-    /// a chain that the directory does not name has the table's note; else with `BadConfig` where the number of buckets
+    /// a chain that the directory does not name has the table's note. Else it hears of one in which nothing is left, and is
+    /// refused with `BadConfig` where the number of buckets
     /// is not 1 to 4,096 or a chain is not there, or is one of the table's, else with `Memory` where memory is, with
     /// `BadConfig` where a chain had a writer, linked an object or had a note other than 0 during the call, or with
     /// `PoolFull` where there is no record for a key or for the directory; then it made no change, and each record that

@@ -1,7 +1,6 @@
 #![tactic(auto)]
 //! Hash tables over the chains of a domain: lookups in read-side sections, which take no lock, beside writers, who take
-//! the lock of one bucket each, and for moments the directory's. A lock tells only the type of what it holds. So who
-//! takes one compares a number or a directory with the wanted one; they always agree.
+//! the lock of one bucket each, and for moments the directory's.
 
 mod bucket;
 mod bucket_array;
@@ -10,6 +9,7 @@ mod directory;
 mod exchange;
 mod grow;
 mod growth;
+mod labelled;
 mod laws;
 mod making;
 mod old_table;

@@ -1,16 +1,18 @@
 //! What earlier directories left.
 
-ghost use Rattle.std.specs.Prelude.{◌≡◌, ◌+◌, ◌^◌, ◌-◌, ◌<◌, IfSome, IsSome, map, min, option_map, vec_len};
-ghost use Rattle.live_log.specs.Log.{Begins};
+ghost use Rattle.std.specs.Prelude.{◌≡◌, ◌≢◌, ℕ, ◌+◌, ◌^◌, ◌-◌, ◌<◌, IfSome, IsSome, map, min, option_map, vec_len};
+ghost use Rattle.live_log.specs.Log.{Begins, chain_note};
 ghost use Rattle.live_log.specs.Tables.{tabled};
 ghost use Rattle.rcu_list.specs.live_read.Hearing.{IsAfter, OnlyHears};
 ghost use Rattle.rcu_list.specs.live_rule.Rights.{object_in, own_in};
 ghost use Rattle.rcu_hash.specs.Growing.{HasLeft};
 ghost use Rattle.rcu_hash.specs.Refusing.{During};
+ghost use Rattle.rcu_hash.specs.Tables.{IsAmong};
 ghost use Rattle.rcu_hash.specs.Tidying.{CountsLeft, IsLeft, IsLinked, IsRecord, IsRest, LinksStill, left_prop, objects_in, one_if, record_prop};
 ghost use Rattle.rcu_hash.specs.Writers.{Each, each_prop, length_of, lengths_of, rights_of, some_prop};
 
 use crate::directory::{DirectoryLock, Naming};
+use crate::labelled::Labelled;
 use gp_memb::GracePlan;
 use live_log::Tabled;
 use rcu_list::{Caller, Chain, Deleter, Handle, Site, Unlinked};
@@ -30,6 +32,14 @@ pub(crate) struct OldTable<'d, P: GracePlan, B: Site, D: Drop> {
     pub(crate) ghost left: { Each (IsLeft naming.directory naming.first naming.buckets) (map (λ c. c.seat.me.0) chains.items) } by { each_prop (IsLeft naming.directory naming.first naming.buckets) (left_prop naming.directory naming.first naming.buckets) _ },
     pub(crate) ghost replaced: { IfSome unlinked (λ u. IsRecord naming.directory u.chain u.seat.me.0) } by { some_prop (λ u. IsRecord naming.directory u.chain u.seat.me.0) (λ u. record_prop naming.directory u.chain u.seat.me.0) _ },
     pub(crate) ghost rest: { IsRest naming.directory naming.object (map (λ c. c.seat.me.0) chains.items) (option_map (λ u. object_in u.seat.me.0.object) unlinked) handle.seat.me.0.heard },
+}
+
+impl<P: GracePlan, B: Site, D: Drop> Labelled<usize> for OldTable<'_, P, B, D> {
+    ghost label = { λ left. left.naming.directory };
+
+    fn has_label(&self, wanted: usize) -> bool {
+        self.naming.directory == wanted
+    }
 }
 
 /// How many objects these chains have, with this many others; at most the greatest number.
@@ -131,6 +141,7 @@ impl<'d, P: GracePlan + Drop, B: Site, D: Deleter> OldTable<'d, P, B, D> {
     ) -> OldTable<'d, P, B, D>
         ensures rest { IsRest self.entry.naming.directory self.entry.naming.object (map (λ c. c.seat.me.0) self.entry.chains.items) (option_map (λ u. object_in u.seat.me.0.object) self.entry.unlinked) (W.heard caller.new) }
         ensures linked { IsLinked self.entry.naming.directory self.entry.naming.object (W.heard caller.new) }
+        ensures noted { (c : ℕ) → IsAmong self.entry.naming.first self.entry.naming.buckets c → chain_note c (W.heard caller.new) ≢ 0 }
         ensures heard { IsAfter P.QSBR tabled (W.seen caller.old) (W.heard caller.old) (W.heard caller.new) }
         ensures same { OnlyHears W.Caller caller.old caller.new }
         ensures left { (result.naming ≡ self.entry.naming) × (result.chains ≡ self.entry.chains) × (result.unlinked ≡ self.entry.unlinked) }

@@ -18,6 +18,7 @@ ghost use Rattle.rcu_hash.specs.Tidying.{ClearsNote, CountsLeft, EndsTidying, Fi
 ghost use Rattle.rcu_hash.specs.Writers.{AreFrom, Each, HasNothing};
 
 use crate::directory::{DirectoryLock, Naming};
+use crate::labelled::take;
 use crate::old_table::OldTable;
 use crate::table::RcuHash;
 use gp_memb::GracePlan;
@@ -236,16 +237,7 @@ impl<'d, P: GracePlan + Drop, B: Site, D: Deleter> RcuHash<'d, P, B, D> {
     )
         ensures { result.1.naming.directory ≡ self.now.directory }
     {
-        for _ in rt.forever() {
-            let mut place = self.left.lock(rt);
-            if let Some(left) = place.take() {
-                if left.naming.directory == self.directory {
-                    return (place, left);
-                }
-                *place = Some(left);
-            }
-        }
-        unreachable!()
+        take(rt, &self.left, self.directory)
     }
 
     /// The caller hears of a log in which nothing is left; or else of one in which this directory is linked. It waits

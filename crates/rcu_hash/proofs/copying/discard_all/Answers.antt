@@ -1,4 +1,4 @@
-use Rattle.rcu_hash.proofs.Cited.{begins_trans, Log, FreesAllBut, stays_both, cell_at, Look, Stored, cell_in, ◌≡◌, [], ◌∷◌, ◌∙◌, ◌++◌, List, refl, sym, ap, subst, arith, zero, map, ⊎_elim, nil_from_length, frees_one}
+use Rattle.rcu_hash.proofs.Cited.{begins_trans, Log, FreesAllBut, stays_both, cell_at, Look, Stored, cell_in, ◌≡◌, [], ◌∷◌, ◌∙◌, ◌++◌, List, refl, sym, ap, subst, arith, map, ⊎_elim, nil_from_length, frees_one}
 use Rattle.rcu_hash.proofs.copying.discard_all.Goals as goal
 
 pub loop-init : goal.loop-init

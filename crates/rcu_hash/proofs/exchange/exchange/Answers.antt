@@ -1,4 +1,4 @@
-use Rattle.rcu_hash.proofs.Cited.{run_of, begins_trans, Log, Begins, IsLiveRun, record_of, state_of, Has, reserved, tabled, LiveEvent, Object, Replace, value_in_bucket, directed_map, Exchanges, Directs, words_by, Each, HasSeen, rights_of, SawBefore, OnlyMakesLast, lent_chains, ChainRight, View, IsListed, own_in, cell_in, object_in, AreAsKnown, list_in, ObjectId, ◌≡◌, ℕ, ◌+◌, [], ◌∷◌, ◌∙◌, ◌++◌, List, length, refl, sym, ap, subst, inl, arith, zero, map, drop, vec_len, length-map, rights_many, leads_there, all_buckets, each_all, replaced_only, first_only, saw_on, words_since, may_relink, words_after, alone_after, map_before, map_after, AreKept, append-nil, AreTheirs, all_theirs, kept_back}
+use Rattle.rcu_hash.proofs.Cited.{run_of, begins_trans, Log, Begins, IsLiveRun, record_of, state_of, Has, reserved, tabled, LiveEvent, Object, Replace, value_in_bucket, directed_map, Exchanges, Directs, words_by, Each, HasSeen, rights_of, SawBefore, OnlyMakesLast, lent_chains, ChainRight, View, IsListed, own_in, cell_in, object_in, AreAsKnown, list_in, ObjectId, ◌≡◌, ℕ, ◌+◌, [], ◌∷◌, ◌∙◌, ◌++◌, List, length, refl, sym, ap, subst, inl, arith, map, drop, vec_len, length-map, rights_many, leads_there, all_buckets, each_all, replaced_only, first_only, saw_on, words_since, may_relink, words_after, alone_after, map_before, map_after, AreKept, append-nil, AreTheirs, all_theirs, kept_back}
 use Rattle.rcu_hash.proofs.exchange.exchange.Given.{Over}
 use Rattle.rcu_hash.proofs.exchange.exchange.Goals.{After-lend_all-new_lents, In-Ok}
 use Rattle.rcu_hash.proofs.exchange.exchange.Goals as goal

@@ -1,4 +1,4 @@
-use Rattle.rcu_hash.proofs.Cited.{run_of, is_noted, Log, Begins, chain_note, record_of, Names, reserved, tabled, IsLinked, chain_known, IsAfter, lent_chains, ChainRight, own_in, In, ObjectId, ◌≡◌, ℕ, ◌+◌, ◌≤◌, ◌∙◌, ◌<◌, List, refl, sym, ap, subst, inl, arith, zero, slice_index_or, ⊎_elim, by_words, words_later, own_used}
+use Rattle.rcu_hash.proofs.Cited.{run_of, is_noted, Log, Begins, chain_note, record_of, Names, reserved, tabled, IsLinked, chain_known, IsAfter, lent_chains, ChainRight, own_in, In, ObjectId, ◌≡◌, ℕ, ◌+◌, ◌≤◌, ◌∙◌, ◌<◌, List, refl, sym, ap, subst, inl, arith, slice_index_or, ⊎_elim, by_words, words_later, own_used}
 use Rattle.rcu_hash.proofs.directory.Directory.hear.Goals as goal
 
 pub invariant_of-self : goal.invariant_of-self

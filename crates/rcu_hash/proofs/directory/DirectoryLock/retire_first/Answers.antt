@@ -1,4 +1,4 @@
-use Rattle.rcu_hash.proofs.Cited.{tabled_maps, begins_trans, Log, Begins, IsLiveRun, chain_note, state_of, tabled, Object, Cut, HasRight, Writes, IsRefused, Naming, KnowsKeys, keys_on, by_result, by_second, if_err, if_ok, keys_cut, one_made, index_has, Queues, RefusesRetirement, lent_chains, ChainRight, own_in, list_in, at_number_other, without_object, ObjectId, ◌≡◌, ℕ, ◌+◌, ◌≤◌, [], ◌∷◌, ◌∙◌, ◌⊎◌, ◌%◌, ◌<◌, List, length, sym, ap, subst, arith, IfErr, some, one_fewer, listed_once, leaves_left, may_cut_left, refused_why, refused_frees, makes_frees, queued_later, IfErr-weaker, right_on}
+use Rattle.rcu_hash.proofs.Cited.{tabled_maps, begins_trans, Log, Begins, IsLiveRun, chain_note, state_of, tabled, Object, Cut, HasRight, Writes, IsRefused, Naming, KnowsKeys, keys_on, by_result, by_second, if_err, if_ok, keys_cut, one_made, index_has, Queues, RefusesRetirement, lent_chains, ChainRight, own_in, list_in, at_number_other, without_object, ObjectId, ◌≡◌, ℕ, ◌+◌, ◌≤◌, [], ◌∷◌, ◌∙◌, ◌⊎◌, ◌%◌, ◌<◌, List, length, sym, ap, subst, arith, IfErr, one_fewer, listed_once, leaves_left, may_cut_left, refused_why, refused_frees, makes_frees, queued_later, IfErr-weaker, right_on}
 use Rattle.rcu_hash.proofs.directory.DirectoryLock.retire_first.Given.{Over}
 use Rattle.rcu_hash.proofs.directory.DirectoryLock.retire_first.Goals.{After-cut_retire-answer}
 use Rattle.rcu_hash.proofs.directory.DirectoryLock.retire_first.Goals as goal
