@@ -161,8 +161,8 @@ module _ {W S : Type 0} (w : Ghosts W S) (qsbr : Bool) (sizes : Sizes) (d : ℕ)
   busy_left : (was mid : W) (first buckets : ℕ) (e : Refusal) → e ≡ Busy → IsNotGrown w qsbr sizes was mid d first buckets e → HasLeft d (w.heard mid) × IsAfter qsbr tabled (w.seen was) (w.heard was) (w.heard mid)
   busy_left was mid first buckets e busy (inl r) = (r.1, r.2)
   busy_left was mid first buckets e busy (inr (t, inl r)) = let no = sym busy ∙ r.0 in absurd (cc)
-  busy_left was mid first buckets e busy (inr (t, inr (fit, inl r))) = let no = sym busy ∙ r in absurd (cc)
-  busy_left was mid first buckets e busy (inr (t, inr (fit, inr r))) = let no = sym busy ∙ r in absurd (cc)
+  busy_left was mid first buckets e busy (inr (t, inr (fit, free, inl r))) = let no = sym busy ∙ r in absurd (cc)
+  busy_left was mid first buckets e busy (inr (t, inr (fit, free, inr r))) = let no = sym busy ∙ r in absurd (cc)
 
   -- the last tidying of a map that is resized
   module _ (old was mid new : W) (first buckets : ℕ) (x : OnlyMoves w qsbr sizes d R old was) (z : OnlyMoves w qsbr sizes d R mid new) (e : Refusal) (untidy : IsNotTidied w qsbr sizes d R mid new e) where

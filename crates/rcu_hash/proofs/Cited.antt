@@ -6,6 +6,7 @@ pub use Rattle.rcu_hash.proofs.Counting.{numbers_are, sum_is, same_objects, rest
 pub use Rattle.rcu_hash.proofs.Directing.{directed_is, answers_linked}
 pub use Rattle.rcu_hash.proofs.Emptying.{waited_later, one_fewer, replaced_later, listed_once, leaves_left, links_still, may_cut_left, may_clear_left, refused_why, refused_finds, refused_frees, makes_frees, frees_chain, frees_finds, frees_nothing, finds_both, finds_none, stays_none, queued_later, writes_weaker, leaves_weaker, heard_on, uses_none, uses_both, each_left, each_popped, each_pushed, objects_pushed, objects_some, objects_next, uses_step}
 pub use Rattle.rcu_hash.proofs.Filling.{from_at, copies_weaker, copies_more, notes_weaker, copies_leave, notes_leave, AreNoted, none_noted, one_noted, all_noted, numbers_from, grows_since, grows_go, all_outside}
+pub use Rattle.rcu_hash.proofs.Finding.{finds_on, HeldSome, held_frees, held_more, held_taken, frees_next, both_free, taken_behind}
 pub use Rattle.rcu_hash.proofs.Hearing.{after_since, insertion_through, successor_through, exchange_through, removal_missing, removal_refused}
 pub use Rattle.rcu_hash.proofs.Holds.{looks_both, each_map, each_last, from_last, rights_many, known_empty, nothing_has_keys, each_head, may_direct, Reaches, paired, all_done, lent_one, right_lent, reaches_on, all_reached, first_lent, dropped_one, right_back, AreTheirs, all_theirs}
 pub use Rattle.rcu_hash.proofs.Looking.{folds_both, WentThrough, went_nowhere, went_on, through_from, walks_from, answers_nowhere, leads_words, HadThrough, through_later, value_answers, bucket_answers, walk_stops, walk_ends}

@@ -4,6 +4,7 @@ pub mod Counting
 pub mod Directing
 pub mod Emptying
 pub mod Filling
+pub mod Finding
 pub mod Holds
 pub mod Hearing
 pub mod Lemmas

@@ -13,7 +13,7 @@ use Rattle.rcu_list.specs.Calls.{HandsOver}
 use Rattle.rcu_hash.specs.Directories.{buckets_in}
 use Rattle.rcu_hash.specs.Growing.{Grows, HasLeft}
 use Rattle.rcu_hash.specs.Publishing.{InsertsThrough, RemovesThrough, ReplacesThrough}
-use Rattle.rcu_hash.specs.Refusing.{During, FindsTaken}
+use Rattle.rcu_hash.specs.Refusing.{During, FindsFree, FindsTaken}
 use Rattle.rcu_hash.specs.Tables.{IsAmong, fits}
 use Rattle.rcu_hash.specs.Tidying.{IsTidied}
 
@@ -37,9 +37,10 @@ module _ {W S : Type 0} (w : Ghosts W S) (qsbr : Bool) (sizes : Sizes) (old new 
   IsGrown first buckets left = (entries : List (ℕ × ℕ)) × (g : Grows qsbr tabled sizes.chains d (w.seen old) (w.heard old) first buckets entries (w.heard new)) × (left ≡ length entries + 1) × (fits sizes.chains d first buckets ≡ true)
       × MakesMany w old new (length entries + buckets + buckets_in (record_of g.left g.old) + 1)
 
-  -- one of these chains is not there, or was taken; or there was no memory or no record
+  -- one of these chains is not there, or was taken; or each was free in some log of the call, and there was no memory or no
+  -- record
   abbrev pub RefusesChains : (is_one : ℕ → Type 0) (first buckets : ℕ) → Refusal → Type 0
-  RefusesChains is_one first buckets e = ((e ≡ BadConfig) × ((fits sizes.chains d first buckets ≡ false) ⊎ FindsTaken w qsbr tabled old new sizes is_one)) ⊎ ((fits sizes.chains d first buckets ≡ true) × ((e ≡ Memory) ⊎ (e ≡ PoolFull)))
+  RefusesChains is_one first buckets e = ((e ≡ BadConfig) × ((fits sizes.chains d first buckets ≡ false) ⊎ FindsTaken w qsbr tabled old new sizes is_one)) ⊎ ((fits sizes.chains d first buckets ≡ true) × FindsFree w qsbr tabled old new is_one × ((e ≡ Memory) ⊎ (e ≡ PoolFull)))
 
   -- a new table is refused
   abbrev pub IsNotMade : (first buckets : ℕ) → Refusal → Type 0

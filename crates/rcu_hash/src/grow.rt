@@ -220,13 +220,12 @@ impl<'d, P: GracePlan + Drop, B: Site, D: Deleter> RcuHash<'d, P, B, D> {
     /// directory came. liburcu's `cds_lfht_resize`.
     ///
     /// Refused with `Busy` where something is left from an earlier growth, and then the caller hears of a log in which
-    /// a chain that the directory does not name has the table's note. Else it hears of one in which nothing is left, and is
-    /// refused with `BadConfig` where the number of buckets
-    /// is not 1 to 4,096 or a chain is not there, or is one of the table's, else with `Memory` where memory is, with
-    /// `BadConfig` where a chain had a writer, linked an object or had a note other than 0 during the call, or with
-    /// `PoolFull` where there is no record for a key or for the directory; then it made no change, and each record that
-    /// it took is free again. It waits for the table's locks, and for no grace period, but tries again where other
-    /// threads draw object numbers meanwhile.
+    /// a chain that the directory does not name has the table's note. Else it hears of one in which nothing is left. Then
+    /// it is refused with `BadConfig` where the number of buckets is not 1 to 4,096, or a chain is not there, is one of
+    /// the table's, or had a writer, linked an object or had a note other than 0 during the call. Else it is refused with
+    /// `Memory` where memory is, or with `PoolFull` where there is no record for a key or for the directory. It made no
+    /// change then, and each record that it took is free again. It waits for the table's locks, and for no grace period,
+    /// but tries again where other threads draw object numbers meanwhile.
     pub fn grow<W: Caller<B>, R: Wait>(
         &self,
         rt: &R,

@@ -18,7 +18,7 @@ ghost use Rattle.rcu_hash.specs.Writers.{AreFrom, Each, IsAlone, IsEmpty};
 use crate::bucket::Bucket;
 use crate::bucket_array::{BucketArray, Place};
 use crate::copying::{Copied, discard_all};
-use crate::making::{hold_all, room};
+use crate::making::{find_free, hold_all, room};
 use gp_memb::GracePlan;
 use live_log::Tabled;
 use rcu_list::{Caller, Chain, Deleter, Domain, Lent, Owned, Site};
@@ -213,7 +213,7 @@ impl<'d, P: GracePlan + Drop, B: Site, D: Deleter> Growth<'d, P, B, D> {
         ensures copied { IfOk result (λ g. ((key : ℕ) → value_among (map (λ c. (c.key, c.value)) g.copied.items) key ≡ value_in_bucket array.now.naming.buckets (map (λ b. b.chain.seat.me.0) g.taken.items) key) × AreApart (map (λ c. (c.key, c.value)) g.copied.items) × AreRanked 0 (map (λ c. c.rank) g.copied.items)) }
         ensures chains { IfOk result (λ g. (vec_len g.chains ≡ buckets) × AreFrom first (map (λ c. c.seat.me.0) g.chains.items) × Each IsEmpty (map (λ c. c.seat.me.0) g.chains.items) × Each IsAlone (map (λ c. c.seat.me.0) g.chains.items)) }
         ensures record { IfOk result (λ g. (payload_in g.owned.seat.me.0.object ≡ words_by first buckets) × (g.old_lents.items ≡ []) × (array.now.naming.buckets ≤ vec_capacity g.old_lents) × (g.new_lents.items ≡ []) × (buckets ≤ vec_capacity g.new_lents)) }
-        ensures refused { IfErr result (λ e. ((e ≡ BadConfig) × FindsTaken W.Caller P.QSBR tabled caller.old caller.new B.sizes (IsAmong first buckets)) ⊎ ((e ≡ Memory) ⊎ (e ≡ PoolFull))) }
+        ensures refused { IfErr result (λ e. ((e ≡ BadConfig) × FindsTaken W.Caller P.QSBR tabled caller.old caller.new B.sizes (IsAmong first buckets)) ⊎ (FindsFree W.Caller P.QSBR tabled caller.old caller.new (IsAmong first buckets) × ((e ≡ Memory) ⊎ (e ≡ PoolFull)))) }
         ensures free { IfOk result (λ _. FindsFree W.Caller P.QSBR tabled caller.old caller.new (IsAmong first buckets)) }
         ensures heard { Begins (W.heard caller.old) (W.heard caller.new) }
         ensures looks { (found : List Look) × (W.looks caller.new ≡ found ++ W.looks caller.old) × IfOk result (λ g. FreesAllBut B.sizes (cell_in g.owned.seat.me.0.object ∷ map (λ c. cell_in c.owned.seat.me.0.object) g.copied.items) found) × IfErr result (λ e. KeepsNone B.sizes e found) }
@@ -221,7 +221,13 @@ impl<'d, P: GracePlan + Drop, B: Site, D: Deleter> Growth<'d, P, B, D> {
         ensures same { Stays W.Caller caller.old caller.new }
     {
         let olds = array.naming.buckets;
-        let (reserved, mut taken, chains) = Reserved::new(alloc, olds, buckets)?;
+        let (reserved, mut taken, chains) = match Reserved::new(alloc, olds, buckets) {
+            Ok(rooms) => rooms,
+            Err(refusal) => {
+                find_free(domain, caller, first, buckets)?;
+                return Err(refusal);
+            }
+        };
         let chains = hold_all(domain, caller, chains, first, buckets)?;
         let mut copied = Vec::new(alloc);
         if let Err(refusal) = copy_all(rt, array, caller, &mut taken, &mut copied) {

@@ -96,6 +96,47 @@ pub(crate) fn hold_empty<'d, P: GracePlan + Drop, B: Site, D: Deleter, W: Caller
     Ok(writer)
 }
 
+/// Chains that follow one another had no writer, were empty and had no note, each in some log of the call. Each is held
+/// and given back.
+///
+/// Refused with `BadConfig` where one was not. The caller hears of what was seen.
+pub(crate) fn find_free<'d, P: GracePlan + Drop, B: Site, D: Deleter, W: Caller<B>>(
+    domain: &'d Domain<P, Tabled, B, D>,
+    caller: &mut W,
+    first: usize,
+    many: usize,
+) -> Result<(), Refusal>
+    requires range { first + many ≤ B.sizes.chains }
+    ensures free { IfOk result (λ _. FindsFree W.Caller P.QSBR tabled caller.old caller.new (IsAmong first many)) }
+    ensures refused { IfErr result (λ e. (e ≡ BadConfig) × FindsTaken W.Caller P.QSBR tabled caller.old caller.new B.sizes (IsAmong first many)) }
+    ensures heard { Begins (W.heard caller.old) (W.heard caller.new) }
+    ensures same { Stays W.Caller caller.old caller.new × (W.loads caller.new ≡ W.loads caller.old) × ((found : List Look) × (W.looks caller.new ≡ found ++ W.looks caller.old) × FreesAll B.sizes found) }
+{
+    for number in 0..many {
+        hold_empty(domain, caller, first + number)?;
+    }
+    Ok(())
+}
+
+/// The same, with another chain before them.
+pub(crate) fn find_all_free<'d, P: GracePlan + Drop, B: Site, D: Deleter, W: Caller<B>>(
+    domain: &'d Domain<P, Tabled, B, D>,
+    caller: &mut W,
+    directory: usize,
+    first: usize,
+    many: usize,
+) -> Result<(), Refusal>
+    requires range { (directory < B.sizes.chains) × (first + many ≤ B.sizes.chains) × ((directory < first) ⊎ (first + many ≤ directory)) }
+    ensures free { IfOk result (λ _. FindsFree W.Caller P.QSBR tabled caller.old caller.new (λ c. (c ≡ directory) ⊎ IsAmong first many c)) }
+    ensures refused { IfErr result (λ e. (e ≡ BadConfig) × FindsTaken W.Caller P.QSBR tabled caller.old caller.new B.sizes (λ c. (c ≡ directory) ⊎ IsAmong first many c)) }
+    ensures heard { Begins (W.heard caller.old) (W.heard caller.new) }
+    ensures same { Stays W.Caller caller.old caller.new × (W.loads caller.new ≡ W.loads caller.old) × ((found : List Look) × (W.looks caller.new ≡ found ++ W.looks caller.old) × FreesAll B.sizes found) }
+{
+    hold_empty(domain, caller, directory)?;
+    find_free(domain, caller, first, many)?;
+    Ok(())
+}
+
 /// The writers of chains that follow one another and have none, are empty and have no note. There is room for them.
 ///
 /// Refused with `BadConfig` where one is not; then all are given back. The caller hears of what was seen.

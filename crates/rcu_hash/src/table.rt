@@ -16,7 +16,9 @@ ghost use Rattle.rcu_list.specs.Calls.{TakesOneRecord};
 use crate::bucket::Bucket;
 use crate::bucket_array::{ArrayLock, BucketArray, empty_lock};
 use crate::directory::DirectoryLock;
-use crate::making::{direct, hold_all, hold_empty, into_buckets, reserve_all, room, rooms};
+use crate::making::{
+    direct, find_all_free, hold_all, hold_empty, into_buckets, reserve_all, room, rooms,
+};
 use crate::old_table::OldTable;
 use crate::view::TableView;
 use gp_memb::GracePlan;
@@ -65,9 +67,9 @@ impl<'d, P: GracePlan + Drop, B: Site, D: Deleter> RcuHash<'d, P, B, D> {
     /// has a value in it.
     ///
     /// Refused with `BadConfig` where the number of buckets is not 1 to 4,096, a chain is not there or the directory's
-    /// chain is one of the buckets', else with `Memory` where memory is, with `BadConfig` where a chain had a writer,
-    /// linked an object or had a note other than 0 during the call, or with `PoolFull` where there is no record. It
-    /// waits for nobody, but tries again where other threads draw object numbers meanwhile.
+    /// chain is one of the buckets', or a chain had a writer, linked an object or had a note other than 0 during the
+    /// call. Else it is refused with `Memory` where memory is, or with `PoolFull` where there is no record. It waits for
+    /// nobody, but tries again where other threads draw object numbers meanwhile.
     pub fn new<W: Caller<B>, R: Wait>(
         rt: &R,
         alloc: Global,
@@ -92,10 +94,16 @@ impl<'d, P: GracePlan + Drop, B: Site, D: Deleter> RcuHash<'d, P, B, D> {
             return Err(Refusal::BadConfig);
         }
         let view = TableView::of(domain, directory)?;
-        let array = empty_lock(alloc)?;
-        let (chains, noted, back, places) = rooms(alloc, buckets)?;
+        let (chains, noted, back, places) = match rooms(alloc, buckets) {
+            Ok(rooms) => rooms,
+            Err(refusal) => {
+                find_all_free(domain, caller, directory, first, buckets)?;
+                return Err(refusal);
+            }
+        };
         let own = hold_empty(domain, caller, directory)?;
         let chains = hold_all(domain, caller, chains, first, buckets)?;
+        let array = empty_lock(alloc)?;
         let lents = room(alloc, buckets)?;
         let owned = match domain.alloc(rt, caller, [first as u64, buckets as u64, 0, 1]) {
             Ok(owned) => owned,

@@ -40,7 +40,7 @@ returns-in-Err-clause-refused g c =
       tidied g (goal.at.returns-in-Err-clause-refused g c).After-tell-left c.ready.new.caller c.ready.ensures.heard,
       ⊎_elim
           (λ taken. inl (taken.0, inr (taken_since w q tabled g.B.Site.sizes (IsAmong first many) (IsAmong first many) (λ k one. one) c.args.caller.now c.tell-left.new.caller c.ready.new.caller t.same.0.0.0 t.heard.after_heard [] t.same.0.1 (λ k one h. h) taken.1)))
-          (λ rest. inr (search rules, rest))
+          (λ rest. inr (search rules, λ k one. during_since w q tabled c.args.caller.now c.tell-left.new.caller c.ready.new.caller (IsUnused k) t.same.0.0.0 t.heard.after_heard (rest.0 k one), rest.1))
           c.in-Err.ensures.refused,
     )
 
