@@ -2,15 +2,15 @@
 pub use Rattle.atomic_table.proofs.Lists.{exchanged}
 pub use Rattle.atomic_table.specs.Table.{Act, Allows, Me, State, Valid, carried_after, keeps, step, stepped}
 pub use Rattle.live_rule.proofs.Lemmas.{Calm, ObjectStep, Unclaimed, apart, calm_object, calm_same, chains_kept, goes_on, guards_far, header_same, heap_beside, heap_far, lines_far, look_all, looks, object_stays, queues_kept, same_object_all, stores, works_kept}
-pub use Rattle.live_rule.proofs.live_log.Lemmas.{by_object, kept_log, ready_stays}
+pub use Rattle.live_rule.proofs.live_log.Lemmas.{begins_trans, by_object, kept_log, ready_stays}
 pub use Rattle.live_rule.proofs.rcu_model.Lemmas.{has_object_in, in_objects}
 pub use Rattle.live_rule.specs.Claims.{ClaimsObject, KnowsObject, object}
 pub use Rattle.live_rule.specs.Objects.{Header, IsAlive, ObjectWords}
 pub use Rattle.live_rule.specs.Places.{cell_at, closed_at, finished_at, head_at, hold_at, last_at, note_at, queued_at, work_at}
-pub use Rattle.live_rule.specs.Rights.{IsDrawn, IsFresh, IsQueued, IsRetired, IsUnlinked, cell_in, link_in, object_in, payload_in}
+pub use Rattle.live_rule.specs.Rights.{IsDrawn, IsFresh, IsQueued, IsRetired, IsUnlinked, KnowsChains, cell_in, link_in, object_in, payload_in}
 pub use Rattle.live_rule.specs.Rule.{KeepsRule}
 pub use Rattle.live_rule.specs.Seats.{but_object}
-pub use Rattle.live_rule.specs.Steps.{IsKnown, exchanged_view, looked_view, stored_view}
+pub use Rattle.live_rule.specs.Steps.{IsKnown, Went, exchanged_view, looked_view, stored_view}
 pub use Rattle.live_rule.specs.declared.rights.RecordRight.{RecordRight}
 pub use Rattle.live_rule.specs.declared.rights.RecordRight.TheVariants.{Drawn, Fresh, Nothing, Queued, Retired, Unlinked}
 pub use Rattle.live_rule.specs.declared.view.Sizes.{Sizes}

@@ -1,7 +1,7 @@
 -- Each step on a record keeps the rule.
 use Rattle.step_records.proofs.Cited.{◌≡◌, ◌≢◌, ◌⊎◌, ℕ, zero, suc, ◌+◌, ◌*◌, ◌/◌, ◌<◌, ◌≤◌, List, [], ◌∷◌, Bool, ◌==◌, get_or, set, sym, refl, ap, ◌∙◌, subst, inl, inr, arith, length-set, get_or-set_other, get_or-set_same, dite, ℕ_discrete, get_elem?, either, State, Me, Act, step, keeps, stepped, Valid, carried_after, Allows, exchanged, ObjectId, In, LiveEvent, Log, state_of, record_of, chain_note, closed_of, line_of, IsLiveRun, objects_of, kept_log, Sizes, View, RecordRight, Nothing, Drawn, Fresh, Unlinked, Retired, Queued, head_at, hold_at, note_at, queued_at, closed_at, finished_at, work_at, last_at, cell_at, IsAlive, ObjectWords, object, ClaimsObject, KnowsObject, KeepsRule, Unclaimed, looks, Calm, calm_same, same_object_all, heap_far, lines_far, guards_far, apart, ObjectStep, object_stays, chains_kept, queues_kept, works_kept, stores, look_all, cell_in, object_in, link_in, payload_in, IsDrawn, IsFresh, exchanged_view, looked_view, stored_view, goes_on, but_object}
 use mathlib.Core.Option as lists
-use Rattle.step_records.specs.Records.{drawn_view, linked_view, worded_view, HasRecord, looked, numbered, drew, took, linked, worded, discarded}
+use Rattle.step_records.specs.Records.{drawn_view, linked_view, worded_view, HasRecord, looked, looked_fresh, numbered, drew, took, linked, worded, discarded}
 
 -- four words of a record, as they are
 abbrev pub four : Sizes → List ℕ → ℕ → List ℕ
@@ -277,6 +277,20 @@ module _ {S : Type 0} (qsbr : Bool) (allows : Log → LiveEvent → Type 0) (key
     tt,
     looks qsbr allows key s r id a v w at refl refl (look_all qsbr allows key s r id v w at (refl, refl, refl, refl, refl, refl)),
     ((refl, refl, (b.0, b.1, r.run)), at_place s.words a (cell_at key (cell_in v.object) 0) a_is ∙ header_is s r id v at is),
+  )
+
+  pub looks_fresh : (slots id : ℕ) (me : Me S View) (a : ℕ) → me.0.sizes ≡ key → IsFresh me.0 → Allows Rule slots id me a (λ n. n) (looked_fresh qsbr allows (step slots a 0 0 lists.none) me)
+  looks_fresh slots id me a sizes is s r deep at fits = let v : View = me.0 in let b = r.seen id v at in let f = fresh_now s r id v at is in let w : View = record v { seen = r.log } in (
+    w,
+    keeps,
+    tt,
+    looks qsbr allows key s r id a v w at refl refl (look_all qsbr allows key s r id v w at (refl, refl, refl, refl, refl, refl)),
+    (
+      (refl, refl, (b.0, b.1, r.run)),
+      goes_on qsbr allows key s r id v at sizes,
+      λ same. at_place s.words a (cell_at key (cell_in v.object) 1) (same ∙ ap (λ (k : Sizes). cell_at k (cell_in v.object) 1) sizes) ∙ f.5,
+      λ j low same. at_place s.words a (cell_at key (cell_in v.object) (j + 2)) (same ∙ ap (λ (k : Sizes). cell_at k (cell_in v.object) (j + 2)) sizes) ∙ f.7 j low,
+    ),
   )
 
   pub looks_word : (slots id : ℕ) (me : Me S View) (a : ℕ) → Allows Rule slots id me a (λ n. n) (looked qsbr allows (step slots a 0 0 lists.none) me)

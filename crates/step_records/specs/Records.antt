@@ -82,6 +82,13 @@ module _ {S : Type 0} (qsbr : Bool) (allows : Log → LiveEvent → Type 0) wher
   abbrev pub worded : Step S → Me S View → ℕ → Me S View → Type 0
   worded st m n m' = (j : ℕ) → j < 4 → st.word ≡ cell_at m.0.sizes (cell_in m.0.object) (j + 2) → Went qsbr allows (worded_view j st.first m.0) m m' × KnowsChains m.0 m'.0
 
+  -- the link or a payload word of the seat's own fresh record was looked at
+  abbrev pub looked_fresh : Step S → Me S View → ℕ → Me S View → Type 0
+  looked_fresh st m n m' =
+      Went qsbr allows m.0 m m' × KnowsChains m.0 m'.0
+      × (st.word ≡ cell_at m.0.sizes (cell_in m.0.object) 1 → n ≡ link_in m.0.object)
+      × ((j : ℕ) → j < 4 → st.word ≡ cell_at m.0.sizes (cell_in m.0.object) (j + 2) → n ≡ slice_index_or (payload_in m.0.object) j 0)
+
   -- the record was freed, by this word
   abbrev pub discarded : Step S → Me S View → ℕ → Me S View → Type 0
   discarded st m n m' = Went qsbr allows (stored_view st.word st.first (but_object m.0)) m m'

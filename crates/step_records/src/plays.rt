@@ -1,5 +1,5 @@
 //! What each step on a record tells.
-ghost use Rattle.step_records.specs.Records.{discarded, drew, linked, looked, looked_payload, numbered, ran, retired, took, worded};
+ghost use Rattle.step_records.specs.Records.{discarded, drew, linked, looked, looked_fresh, looked_payload, numbered, ran, retired, took, worded};
 
 use atomic_table::Play;
 use live_rule::{CallbackId, ChainRule, GracePlan, View};
@@ -45,6 +45,12 @@ pub(crate) struct StoresWord<P, K>(PhantomData<(P, K)>);
 
 impl<P: GracePlan, K: ChainRule> Play<CallbackId, View> for StoresWord<P, K> {
     ghost then = { worded P.QSBR K.allows };
+}
+
+pub(crate) struct LooksFresh<P, K>(PhantomData<(P, K)>);
+
+impl<P: GracePlan, K: ChainRule> Play<CallbackId, View> for LooksFresh<P, K> {
+    ghost then = { looked_fresh P.QSBR K.allows };
 }
 
 pub(crate) struct Discards<P, K>(PhantomData<(P, K)>);

@@ -1,5 +1,5 @@
 //! One function for each kind of step on a record. None of them waits, and none writes an event: what is not linked is
-//! no part of the log.
+//! no part of the log. What `store_link` and `store_word` would store they load first.
 ghost use Rattle.std.specs.Prelude.{◌≡◌, ◌≢◌, ◌+◌, ◌*◌, ◌<◌, ◌≤◌, ◌^◌};
 ghost use Rattle.live_rule.specs.Places.{cell_at, last_at};
 ghost use Rattle.live_rule.specs.Seats.{but_object};
@@ -8,7 +8,7 @@ ghost use Rattle.live_rule.specs.Steps.{Keeps, Went, looked_view, stored_view};
 ghost use Rattle.step_records.specs.Records.{DrewNumber, HasRecord, TookRecord, linked_view, worded_view};
 
 use crate::plays::{
-    Discards, Draws, LooksHeader, LooksLast, LooksNumber, StoresLink, StoresWord, Takes,
+    Discards, Draws, LooksFresh, LooksHeader, LooksLast, LooksNumber, StoresLink, StoresWord, Takes,
 };
 use live_rule::{ChainRule, GracePlan, LiveSeat, LiveTable};
 
@@ -96,7 +96,8 @@ pub fn take_cell<P: GracePlan, K: ChainRule>(
         .compare_exchange::<Takes<P, K>>(seat, place, 0, 2 * number)
 }
 
-/// Stores the link of a fresh record. A writer goes on knowing its chains.
+/// Stores the link of a fresh record, unless it is there: a load is cheaper than a store. A writer goes on knowing its
+/// chains.
 pub fn store_link<P: GracePlan, K: ChainRule>(
     table: &LiveTable<P, K>,
     seat: &mut LiveSeat,
@@ -109,14 +110,14 @@ pub fn store_link<P: GracePlan, K: ChainRule>(
     ensures linked { Went P.QSBR K.allows (linked_view link seat.old.me.0) seat.old.me seat.new.me × KnowsChains seat.old.me.0 seat.new.me.0 }
 {
     let place = table.cell_place(cell, 1);
-    table
-        .words
-        .shared
-        .store::<StoresLink<P, K>>(seat, place, link);
+    let shared = &table.words.shared;
+    if shared.load::<LooksFresh<P, K>>(seat, place) != link {
+        shared.store::<StoresLink<P, K>>(seat, place, link);
+    }
 }
 
-/// Stores one of the four payload words of a fresh record, the first one at `index` 0. A writer goes on knowing its
-/// chains.
+/// Stores one of the four payload words of a fresh record, the first one at `index` 0, unless it is there. A writer goes
+/// on knowing its chains.
 pub fn store_word<P: GracePlan, K: ChainRule>(
     table: &LiveTable<P, K>,
     seat: &mut LiveSeat,
@@ -130,10 +131,10 @@ pub fn store_word<P: GracePlan, K: ChainRule>(
     ensures worded { Went P.QSBR K.allows (worded_view index word seat.old.me.0) seat.old.me seat.new.me × KnowsChains seat.old.me.0 seat.new.me.0 }
 {
     let place = table.cell_place(cell, index + 2);
-    table
-        .words
-        .shared
-        .store::<StoresWord<P, K>>(seat, place, word);
+    let shared = &table.words.shared;
+    if shared.load::<LooksFresh<P, K>>(seat, place) != word {
+        shared.store::<StoresWord<P, K>>(seat, place, word);
+    }
 }
 
 /// Frees a fresh record: the store of `discard`, which is kept among the looks. Its object's number is given to no

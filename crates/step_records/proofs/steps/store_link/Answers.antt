@@ -1,7 +1,15 @@
-use Rattle.step_records.proofs.Cited.{ℕ, ◌∙◌, ap, sym, cell_at}
-use Rattle.step_records.proofs.Records.{stores_link}
+use Rattle.step_records.proofs.Cited.{ℕ, ◌∙◌, ap, sym, Fresh, cell_at, cell_in, object_in, payload_in}
+use Rattle.step_records.proofs.Fresh.{still_fresh, stored_then}
+use Rattle.step_records.proofs.Records.{looks_fresh, stores_link}
 use Rattle.step_records.proofs.steps.store_link.Goals as goal
 
+pub load-requires : goal.load-requires
+load-requires g c = (c.requires.seat.0, c.cell_place-place.ensures.1, looks_fresh g.P.GracePlan.QSBR g.K.ChainRule.allows _ _ _ _ _ c.requires.seat.1 c.requires.right.0)
+
 pub store-requires : goal.store-requires
-store-requires g c = let right = c.requires.right in let key = c.args.table.now.words.shared.key in
-    (c.requires.seat.0, c.cell_place-place.ensures.1, stores_link g.P.GracePlan.QSBR g.K.ChainRule.allows _ _ _ _ _ _ c.requires.seat.1 right.0 (c.cell_place-place.ensures.0 ∙ ap (λ (i : ℕ). cell_at key i 1) (sym right.1)))
+store-requires g c = let q = g.P.GracePlan.QSBR in let allows = g.K.ChainRule.allows in let key = c.args.table.now.words.shared.key in let looked = c.load.ensures in
+    let f = still_fresh q allows c.args.seat.now.me c.load.new.seat.me looked.2.0 key c.args.cell c.requires.seat.1 c.requires.right in
+    (looked.0 ∙ c.requires.seat.0, c.cell_place-place.ensures.1, stores_link q allows _ _ _ _ _ _ f.0 f.1 (c.cell_place-place.ensures.0 ∙ ap (λ (i : ℕ). cell_at key i 1) (sym f.2)))
+
+pub returns-then-load-link-clause-linked : goal.returns-then-load-link-clause-linked
+returns-then-load-link-clause-linked g c = stored_then g.P.GracePlan.QSBR g.K.ChainRule.allows c.args.seat.now.me c.load.new.seat.me c.load.ensures.2.0 (λ r. Fresh (cell_in r) (object_in r) c.args.link (payload_in r)) c.store.new.seat.me c.store.ensures.2
