@@ -1,17 +1,14 @@
 //! A map from keys to values, which grows while it is read.
 
-ghost use Rattle.std.specs.Prelude.{◌≡◌, ◌+◌, ◌⊎◌, ◌<◌, None, Some, IfErr, IfOk, true};
+ghost use Rattle.std.specs.Prelude.{◌≡◌, ◌+◌, ◌⊎◌, ◌<◌, None, Some, IfErr, IfOk};
 ghost use Rattle.rcu_model.specs.declared.refusal.Refusal.TheVariants.{Closed, Memory, PoolFull};
 ghost use Rattle.live_log.specs.Tables.{tabled};
-ghost use Rattle.rcu_hash.specs.live_read.Hearing.{IsAfter, MakesMany, Stays};
+ghost use Rattle.rcu_hash.specs.live_read.Hearing.{Stays};
 ghost use Rattle.rcu_hash.specs.live_read.Reads.{Looks};
 ghost use Rattle.live_log.specs.Log.{Begins};
-ghost use Rattle.rcu_hash.specs.Calls.{IsNotMade};
-ghost use Rattle.rcu_hash.specs.Directories.{HasNoKeys};
+ghost use Rattle.rcu_hash.specs.Calls.{IsMade, IsNotMade};
 ghost use Rattle.rcu_hash.specs.Freeing.{KeepsRecords};
-ghost use Rattle.rcu_hash.specs.Growing.{Founds};
-ghost use Rattle.rcu_hash.specs.Refusing.{FindsFree, RefusesRemovalThrough};
-ghost use Rattle.rcu_hash.specs.Tables.{IsAmong, fits};
+ghost use Rattle.rcu_hash.specs.Refusing.{RefusesRemovalThrough};
 ghost use Rattle.rcu_hash.specs.Tidying.{IsTidied};
 ghost use Rattle.rcu_hash.specs.Writers.{Each};
 ghost use Rattle.rcu.specs.declared.reclaim.Reclaim.TheVariants.{Moved};
@@ -75,15 +72,11 @@ impl<'d, P: GracePlan + Drop, B: Site, F: Deleter + Copy, T: Word + Copy + Drop>
         buckets: usize,
         deleter: F,
     ) -> Result<Map<'d, P, B, F, T>, Refusal>
-        ensures made { IfOk result (λ m. (m.table.directory ≡ directory) × (m.deleter ≡ deleter) × (fits B.sizes.chains directory first buckets ≡ true)) }
-        ensures founded { IfOk result (λ _. Founds P.QSBR tabled directory (W.seen caller.old) (W.heard caller.old) first buckets (W.heard caller.new)) }
-        ensures free { IfOk result (λ _. FindsFree W.Caller P.QSBR tabled caller.old caller.new (λ c. (c ≡ directory) ⊎ IsAmong first buckets c)) }
-        ensures map { IfOk result (λ _. HasNoKeys B.sizes.chains directory first buckets (W.heard caller.new)) }
-        ensures heard { IfOk result (λ _. IsAfter P.QSBR tabled (W.seen caller.old) (W.heard caller.old) (W.heard caller.new)) }
+        ensures made { IfOk result (λ m. (m.table.directory ≡ directory) × (m.deleter ≡ deleter) × IsMade W.Caller P.QSBR B.sizes caller.old caller.new directory first buckets) }
         ensures later { Begins (W.heard caller.old) (W.heard caller.new) }
         ensures refused { IfErr result (λ e. IsNotMade W.Caller P.QSBR B.sizes caller.old caller.new directory first buckets e) }
         ensures looks { KeepsRecords W.Caller B.sizes caller.old caller.new result (λ _. 1) }
-        ensures changes { IfOk result (λ _. MakesMany W.Caller caller.old caller.new (buckets + 1)) × IfErr result (λ _. Stays W.Caller caller.old caller.new) }
+        ensures stays { IfErr result (λ _. Stays W.Caller caller.old caller.new) }
         ensures same { W.loads caller.new ≡ W.loads caller.old }
     {
         let table = RcuHash::new(rt, alloc, domain, caller, directory, first, buckets)?;

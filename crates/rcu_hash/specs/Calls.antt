@@ -10,8 +10,8 @@ use Rattle.rcu_list.specs.live_read.Hearing.{IsAfter, MakesLast, MakesMany}
 use Rattle.rcu_list.specs.live_read.declared.caller.Caller.{Ghosts}
 use Rattle.rcu_list.specs.live_rule.declared.view.Sizes.{Sizes}
 use Rattle.rcu_list.specs.Calls.{HandsOver}
-use Rattle.rcu_hash.specs.Directories.{buckets_in}
-use Rattle.rcu_hash.specs.Growing.{Grows, HasLeft}
+use Rattle.rcu_hash.specs.Directories.{HasNoKeys, buckets_in}
+use Rattle.rcu_hash.specs.Growing.{Founds, Grows, HasLeft}
 use Rattle.rcu_hash.specs.Publishing.{InsertsThrough, RemovesThrough, ReplacesThrough}
 use Rattle.rcu_hash.specs.Refusing.{During, FindsFree, FindsTaken}
 use Rattle.rcu_hash.specs.Tables.{IsAmong, fits}
@@ -41,6 +41,16 @@ module _ {W S : Type 0} (w : Ghosts W S) (qsbr : Bool) (sizes : Sizes) (old new 
   -- record
   abbrev pub RefusesChains : (is_one : ℕ → Type 0) (first buckets : ℕ) → Refusal → Type 0
   RefusesChains is_one first buckets e = ((e ≡ BadConfig) × ((fits sizes.chains d first buckets ≡ false) ⊎ FindsTaken w qsbr tabled old new sizes is_one)) ⊎ ((fits sizes.chains d first buckets ≡ true) × FindsFree w qsbr tabled old new is_one × ((e ≡ Memory) ⊎ (e ≡ PoolFull)))
+
+  -- A new table is made: each chain was unused in some log of the call. Then each bucket was reserved, and the directory
+  -- came. In the last log, after all that the caller knew, no key has a value. The caller made that many changes.
+  pub record IsMade (first buckets : ℕ) : Type 0 where
+    pub fit : fits sizes.chains d first buckets ≡ true
+    pub free : FindsFree w qsbr tabled old new (λ c. (c ≡ d) ⊎ IsAmong first buckets c)
+    pub founded : Founds qsbr tabled d (w.seen old) (w.heard old) first buckets (w.heard new)
+    pub empty : HasNoKeys sizes.chains d first buckets (w.heard new)
+    pub heard : IsAfter qsbr tabled (w.seen old) (w.heard old) (w.heard new)
+    pub many : MakesMany w old new (buckets + 1)
 
   -- a new table is refused
   abbrev pub IsNotMade : (first buckets : ℕ) → Refusal → Type 0

@@ -1,16 +1,15 @@
 //! A hash table.
 
-ghost use Rattle.std.specs.Prelude.{◌≡◌, ◌⊎◌, ◌+◌, ◌<◌, IfErr, IfOk, true};
+ghost use Rattle.std.specs.Prelude.{◌≡◌, ◌⊎◌, ◌+◌, ◌<◌, IfErr, IfOk};
 ghost use Rattle.live_log.specs.Log.{Begins};
 ghost use Rattle.live_log.specs.Tables.{tabled};
-ghost use Rattle.rcu_list.specs.live_read.Hearing.{IsAfter, MakesLast, MakesMany, Stays};
+ghost use Rattle.rcu_list.specs.live_read.Hearing.{MakesLast, Stays};
 ghost use Rattle.rcu_list.specs.live_read.Reads.{Looks};
-ghost use Rattle.rcu_hash.specs.Directories.{AnswersReader, HasNoKeys, VisitsTable};
+ghost use Rattle.rcu_hash.specs.Directories.{AnswersReader, VisitsTable};
 ghost use Rattle.rcu_hash.specs.Freeing.{KeepsRecords};
-ghost use Rattle.rcu_hash.specs.Growing.{Founds};
-ghost use Rattle.rcu_hash.specs.Refusing.{FindsFree, RefusesInsertionThrough, RefusesRemovalThrough, RefusesReplacementThrough};
-ghost use Rattle.rcu_hash.specs.Tables.{IsAmong, bucket_of, fits};
-ghost use Rattle.rcu_hash.specs.Calls.{IsInsertedThrough, IsNotMade, IsRemovedThrough, IsReplacedThrough};
+ghost use Rattle.rcu_hash.specs.Refusing.{RefusesInsertionThrough, RefusesRemovalThrough, RefusesReplacementThrough};
+ghost use Rattle.rcu_hash.specs.Tables.{bucket_of, fits};
+ghost use Rattle.rcu_hash.specs.Calls.{IsInsertedThrough, IsMade, IsNotMade, IsRemovedThrough, IsReplacedThrough};
 ghost use Rattle.rcu_list.specs.Calls.{TakesOneRecord};
 
 use crate::bucket::Bucket;
@@ -79,15 +78,11 @@ impl<'d, P: GracePlan + Drop, B: Site, D: Deleter> RcuHash<'d, P, B, D> {
         first: usize,
         buckets: usize,
     ) -> Result<RcuHash<'d, P, B, D>, Refusal>
-        ensures made { IfOk result (λ t. (t.directory ≡ directory) × (fits B.sizes.chains directory first buckets ≡ true)) }
-        ensures founded { IfOk result (λ _. Founds P.QSBR tabled directory (W.seen caller.old) (W.heard caller.old) first buckets (W.heard caller.new)) }
-        ensures free { IfOk result (λ _. FindsFree W.Caller P.QSBR tabled caller.old caller.new (λ c. (c ≡ directory) ⊎ IsAmong first buckets c)) }
-        ensures map { IfOk result (λ _. HasNoKeys B.sizes.chains directory first buckets (W.heard caller.new)) }
-        ensures heard { IfOk result (λ _. IsAfter P.QSBR tabled (W.seen caller.old) (W.heard caller.old) (W.heard caller.new)) }
+        ensures made { IfOk result (λ t. (t.directory ≡ directory) × IsMade W.Caller P.QSBR B.sizes caller.old caller.new directory first buckets) }
         ensures later { Begins (W.heard caller.old) (W.heard caller.new) }
         ensures refused { IfErr result (λ e. IsNotMade W.Caller P.QSBR B.sizes caller.old caller.new directory first buckets e) }
         ensures looks { KeepsRecords W.Caller B.sizes caller.old caller.new result (λ _. 1) }
-        ensures changes { IfOk result (λ _. MakesMany W.Caller caller.old caller.new (buckets + 1)) × IfErr result (λ _. Stays W.Caller caller.old caller.new) }
+        ensures stays { IfErr result (λ _. Stays W.Caller caller.old caller.new) }
         ensures same { W.loads caller.new ≡ W.loads caller.old }
     {
         if !fits(domain.chains(), directory, first, buckets) {

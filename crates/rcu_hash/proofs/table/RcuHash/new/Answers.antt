@@ -89,23 +89,34 @@ returns g c =
     subst (λ (k : ℕ). NotesAll (Writes q tabled (w.seen w0)) (reserved object) first k (w.heard w3) (w.heard w4)) h.0
     (subst (λ (s : Log). NotesAll (Writes q tabled s) (reserved object) first (vec_len c.in_ok-chains.chains) (w.heard w3) (w.heard w4)) seen (n.told first h.1)) in
     let size0 = vec_len c.in_ok-chains.chains in let size_is = h.0 in let count : 0 + 0 + 0 + size0 + 1 + 0 ≡ many + 1 = omega arith in record {
-      made = (refl, search rules);
-      founded = subst (Founds q tabled directory (w.seen w0) (w.heard w0) first many) last (record {
-        noted = w.heard w4;
-        object = object;
-        cell = d.pushed.0;
-        notes = notes_weaker (Writes q tabled (w.seen w0)) (writes_weaker q tabled (w.seen w0)) (reserved object) first many (w.heard w0) (w.heard w3) (w.heard w4) heard told;
-        pushed = subst (λ r. Writes q tabled (w.seen w0) (w.heard w4) (Object (Push directory (object_in r) d.pushed.0 (words_by first many))) log) n.owned
-            (subst (λ (s : Log). Writes q tabled s (w.heard w4) (Object (Push directory its d.pushed.0 (words_by first many))) log) (n.same.0.made.0 ∙ seen)
-            (subst (λ (k : ℕ). Writes q tabled (w.seen w4) (w.heard w4) (Object (Push k its d.pushed.0 (words_by first many))) log) own
-            (subst (λ (k : ℕ). Writes q tabled (w.seen w4) (w.heard w4) (Object (Push c.in_ok-own.own.number its d.pushed.0 (words_by first k))) log) size d.pushed.1)));
-      });
-      -- the directory's chain was unused once it was held, and then each bucket's
-      free = both_free w q directory first many w0 w1 w2 a.same.0.0 a.heard w6 b.heard goes c.in_ok-own.ensures.unused c.in_ok-chains.ensures.free;
-      map = λ key. subst (λ (l : Log). (directed_map sizes.chains directory l key ≡ None) × LeadsTo directory l key (bucket_of first many key)) last
-          (subst (λ (k : ℕ). (directed_map sizes.chains k log key ≡ None) × LeadsTo k log key (bucket_of first many key)) own
-          (subst (λ (k : ℕ). (directed_map sizes.chains c.in_ok-own.own.number log key ≡ None) × LeadsTo c.in_ok-own.own.number log key (bucket_of first k key)) size (d.map key)));
-      heard = after;
+      made = (
+        refl,
+        record {
+          fit = search rules;
+          -- the directory's chain was unused once it was held, and then each bucket's
+          free = both_free w q directory first many w0 w1 w2 a.same.0.0 a.heard w6 b.heard goes c.in_ok-own.ensures.unused c.in_ok-chains.ensures.free;
+          founded = subst (Founds q tabled directory (w.seen w0) (w.heard w0) first many) last (record {
+            noted = w.heard w4;
+            object = object;
+            cell = d.pushed.0;
+            notes = notes_weaker (Writes q tabled (w.seen w0)) (writes_weaker q tabled (w.seen w0)) (reserved object) first many (w.heard w0) (w.heard w3) (w.heard w4) heard told;
+            pushed = subst (λ r. Writes q tabled (w.seen w0) (w.heard w4) (Object (Push directory (object_in r) d.pushed.0 (words_by first many))) log) n.owned
+                (subst (λ (s : Log). Writes q tabled s (w.heard w4) (Object (Push directory its d.pushed.0 (words_by first many))) log) (n.same.0.made.0 ∙ seen)
+                (subst (λ (k : ℕ). Writes q tabled (w.seen w4) (w.heard w4) (Object (Push k its d.pushed.0 (words_by first many))) log) own
+                (subst (λ (k : ℕ). Writes q tabled (w.seen w4) (w.heard w4) (Object (Push c.in_ok-own.own.number its d.pushed.0 (words_by first k))) log) size d.pushed.1)));
+          });
+          empty = λ key. subst (λ (l : Log). (directed_map sizes.chains directory l key ≡ None) × LeadsTo directory l key (bucket_of first many key)) last
+              (subst (λ (k : ℕ). (directed_map sizes.chains k log key ≡ None) × LeadsTo k log key (bucket_of first many key)) own
+              (subst (λ (k : ℕ). (directed_map sizes.chains c.in_ok-own.own.number log key ≡ None) × LeadsTo c.in_ok-own.own.number log key (bucket_of first k key)) size (d.map key)));
+          heard = after;
+          many = subst (MakesMany w w0 w6) count (more_made w w0 w5 w6 (0 + 0 + 0 + size0 + 1) 0
+              (more_made w w0 w4 w5 (0 + 0 + 0 + size0) 1
+              (more_made w w0 w3 w4 (0 + 0 + 0) size0
+              (more_made w w0 w2 w3 (0 + 0) 0 (more_made w w0 w1 w2 0 0 (none_made w w0 w1 a.same.0) (none_made w w1 w2 b.same.0)) (none_made w w2 w3 o.same.0)) n.same.0)
+              (one_made w w4 w5 log d.same.0))
+              (none_made w w5 w6 split.0.0.0));
+        },
+      );
       later = after.after_heard;
       refused = tt;
       looks = (
@@ -114,15 +125,7 @@ returns g c =
         (cell ∷ [], refl, but_after sizes (two.0 ++ one.0) three.0 (cell ∷ []) (frees_both sizes one.0 two.0 one.2 two.2) (keeps_one sizes cell (object_in c.in-Ok-alloc.owned.seat.me.0.object).0 three.0 three.2)),
         tt,
       );
-      changes = (
-        subst (MakesMany w w0 w6) count (more_made w w0 w5 w6 (0 + 0 + 0 + size0 + 1) 0
-            (more_made w w0 w4 w5 (0 + 0 + 0 + size0) 1
-            (more_made w w0 w3 w4 (0 + 0 + 0) size0
-            (more_made w w0 w2 w3 (0 + 0) 0 (more_made w w0 w1 w2 0 0 (none_made w w0 w1 a.same.0) (none_made w w1 w2 b.same.0)) (none_made w w2 w3 o.same.0)) n.same.0)
-            (one_made w w4 w5 log d.same.0))
-            (none_made w w5 w6 split.0.0.0)),
-        tt,
-      );
+      stays = tt;
       same = split.0.1 ∙ (d.same.2 ∙ (n.same.2 ∙ (o.same.1 ∙ (b.same.1 ∙ a.same.1))));
     }
 
