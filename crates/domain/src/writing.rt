@@ -9,8 +9,8 @@ ghost use Rattle.live_words.specs.live_rule.Places.{cell_at};
 ghost use Rattle.live_words.specs.live_rule.Seats.{lent_chains};
 ghost use Rattle.live_words.specs.live_rule.Rights.{cell_in, object_in, payload_in};
 ghost use Rattle.live_words.specs.live_rule.Steps.{Keeps};
-ghost use Rattle.live_read.specs.Hearing.{IsAfter, Stays};
-ghost use Rattle.live_write.specs.Calls.{IsHad, IsNotHad, LoadsHeader, LoadsSeqBefore};
+ghost use Rattle.live_read.specs.Hearing.{IsAfter, OnlyHears, Stays};
+ghost use Rattle.live_write.specs.Calls.{IsHad, IsNotHad, IsUnretired, KeepsRight, LoadsHeader, LoadsSeqBefore};
 ghost use Rattle.live_write.specs.Searching.{GetsNoRecord, TakesFor};
 
 use crate::domain::Domain;
@@ -91,5 +91,16 @@ impl<P: GracePlan + Drop, K: ChainRule, B: Site, D: Deleter> Domain<P, K, B, D> 
         ensures looked { LoadsHeader P.QSBR K.allows B.sizes result.0 unlinked.old.seat.me unlinked.new.seat.me }
     {
         unlinked.object(&self.table)
+    }
+
+    /// The caller hears of a log in which the object of a record that was cut is not retired, by a load of the record's
+    /// first word. The log comes after all that the caller had seen and heard of.
+    pub fn hear_unlinked<W: Caller<B>>(&self, caller: &mut W, unlinked: &mut Unlinked<B>)
+        ensures waits { IsUnretired (object_in unlinked.old.seat.me.0.object) (W.heard caller.new) }
+        ensures heard { IsAfter P.QSBR K.allows (W.seen caller.old) (W.heard caller.old) (W.heard caller.new) }
+        ensures right { KeepsRight unlinked.old.seat.me.0 unlinked.new.seat.me.0 × (unlinked.new.chain ≡ unlinked.old.chain) }
+        ensures same { OnlyHears W.Caller caller.old caller.new }
+    {
+        unlinked.hear(&self.table, caller);
     }
 }

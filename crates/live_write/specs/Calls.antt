@@ -5,10 +5,10 @@ use Rattle.atomic_table.specs.declared.shared.Seat.{Seat}
 use Rattle.rcu_model.specs.declared.event.ObjectId.{ObjectId}
 use Rattle.rcu_model.specs.declared.refusal.Refusal.{Refusal}
 use Rattle.rcu_model.specs.declared.refusal.Refusal.TheVariants.{Busy, NoPlace}
-use Rattle.rcu_model.specs.Sets.{replaced, without_object}
+use Rattle.rcu_model.specs.Sets.{In, replaced, without_object}
 use Rattle.live_log.specs.declared.event.LiveEvent.{LiveEvent}
 use Rattle.live_log.specs.declared.event.LiveEvent.TheVariants.{ChainNote}
-use Rattle.live_log.specs.Log.{Log, Begins}
+use Rattle.live_log.specs.Log.{Log, Begins, state_of}
 use Rattle.live_words.specs.live_rule.declared.rights.ChainRight.{ChainRight}
 use Rattle.live_words.specs.live_rule.declared.view.Look.TheVariants.{Loaded, Stored}
 use Rattle.live_words.specs.live_rule.declared.view.Sizes.{Sizes}
@@ -120,6 +120,14 @@ module _ {W S : Type 0} (w : Ghosts W S) (key : Sizes) (chain : ℕ) (old new : 
   -- there is no such chain, or its hold word was found to be 1
   abbrev pub IsNotHad : Refusal → Type 0
   IsNotHad e = ((e ≡ NoPlace) × (key.chains ≤ chain) × (new ≡ old)) ⊎ ((e ≡ Busy) × (chain < key.chains) × (w.looks new ≡ Loaded (hold_at key chain) 1 ∷ w.looks old))
+
+-- the object is not retired
+abbrev pub IsUnretired : ObjectId → Log → Type 0
+IsUnretired o log = ¬ In (state_of log).retired o
+
+-- a record's seat has the right that it had, and may have seen more
+abbrev pub KeepsRight : View → View → Type 0
+KeepsRight v w = (w.object ≡ v.object) × Begins v.seen w.seen
 
 -- a seat has loaded the header of the record of its object, and found this number in it
 abbrev pub LoadsHeader : {S : Type 0} → Bool → (Log → LiveEvent → Type 0) → Sizes → ℕ → Me S View → Me S View → Type 0

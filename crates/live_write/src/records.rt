@@ -4,8 +4,8 @@ ghost use Rattle.std.specs.Prelude.{◌≡◌, ◌<◌, ◌≤◌, ◌^◌, []};
 ghost use Rattle.live_words.specs.live_rule.Rights.{IsFresh, IsUnlinked, cell_in, object_in};
 
 use gp_memb::GracePlan;
-use live_read::Site;
-use live_words::{ChainRule, LiveSeat, LiveTable, load_number};
+use live_read::{Caller, Site, tell_all};
+use live_words::{ChainRule, LiveSeat, LiveTable, load_number, load_payload};
 use rcu_model::ObjectId;
 use std::marker::PhantomData;
 
@@ -47,7 +47,8 @@ pub struct Unlinked<B: Site> {
 
 impl<B: Site> Unlinked<B> {
     ghost use Rattle.live_words.specs.live_rule.Steps.{Keeps};
-    ghost use Rattle.live_write.specs.Calls.{LoadsHeader};
+    ghost use Rattle.live_read.specs.Hearing.{IsAfter, OnlyHears};
+    ghost use Rattle.live_write.specs.Calls.{IsUnretired, KeepsRight, LoadsHeader};
 
     /// Of a seat with the right to it.
     pub(crate) fn of(seat: LiveSeat, cell: usize, chain: usize) -> Unlinked<B>
@@ -87,5 +88,25 @@ impl<B: Site> Unlinked<B> {
         ensures looked { LoadsHeader P.QSBR K.allows B.sizes result.0 self.old.seat.me self.new.seat.me }
     {
         ObjectId(load_number(table, &mut self.seat, self.cell))
+    }
+
+    /// The caller hears of a log in which the object is not retired, by a load of the record's first word. The log comes
+    /// after all that the caller had seen and heard of.
+    pub fn hear<P: GracePlan, K: ChainRule, W: Caller<B>>(
+        &mut self,
+        table: &LiveTable<P, K>,
+        caller: &mut W,
+    )
+        requires { (table.now.words.shared.table_id ≡ B.table) × (table.now.words.shared.key ≡ B.sizes) }
+        ensures waits { IsUnretired (object_in self.old.seat.me.0.object) (W.heard caller.new) }
+        ensures heard { IsAfter P.QSBR K.allows (W.seen caller.old) (W.heard caller.old) (W.heard caller.new) }
+        ensures right { KeepsRight self.old.seat.me.0 self.new.seat.me.0 × (self.new.chain ≡ self.old.chain) }
+        ensures same { OnlyHears W.Caller caller.old caller.new }
+    {
+        let told = tell_all(table, caller);
+        table.learn(&mut self.seat, told);
+        load_payload(table, &mut self.seat, self.cell, 0);
+        let heard = table.tell(&mut self.seat);
+        caller.learn(table, heard);
     }
 }

@@ -2,7 +2,7 @@
 pub mod Words
 pub use Words.*
 pub use Rattle.rcu_hash.proofs.Copies.{more_ranked, each_at, each_set, IsCopied, copied_skip, copied_more, filled_more, found_more, in_behind, found_before, falls_known, value_walked, got_at, got_words, Holds, hold_nothing, no_value, may_put, put_value, put_holds, holds_next, split_next, next_new, ranked_next, next_taken}
-pub use Rattle.rcu_hash.proofs.Counting.{numbers_are, sum_is, same_objects, rest_rights, row_is, byte_is, one_is, from_popped, from_pushed, rights_set, rights_ended, many_lengths, same_many, length_at, only_both, counts_since, stopped_for, stopped_on}
+pub use Rattle.rcu_hash.proofs.Counting.{numbers_are, sum_is, same_objects, rest_rights, row_is, byte_is, one_is, from_popped, from_pushed, rights_set, rights_ended, many_lengths, same_many, length_at, some_mapped, only_both, counts_since, stopped_for, stopped_on}
 pub use Rattle.rcu_hash.proofs.Directing.{directed_is, answers_linked}
 pub use Rattle.rcu_hash.proofs.Emptying.{waited_later, one_fewer, replaced_later, listed_once, leaves_left, links_still, may_cut_left, may_clear_left, refused_why, refused_finds, refused_frees, makes_frees, frees_chain, frees_finds, frees_nothing, finds_both, finds_none, stays_none, queued_later, writes_weaker, leaves_weaker, heard_on, uses_none, uses_both, each_left, each_popped, each_pushed, objects_pushed, objects_some, objects_next, uses_step}
 pub use Rattle.rcu_hash.proofs.Filling.{from_at, copies_weaker, copies_more, notes_weaker, copies_leave, notes_leave, AreNoted, none_noted, one_noted, all_noted, numbers_from, grows_since, grows_go, all_outside}

@@ -1,5 +1,5 @@
 -- How much earlier directories left, by the rights of the writers of their chains.
-use Rattle.rcu_hash.proofs.Cited.Words.{Bool, ◌≡◌, ℕ, ◌+◌, List, [], ◌∷◌, ◌++◌, Option, None, Some, length, map, option_map, slice_get, set, inl, inr, refl, sym, ap, ◌∙◌, subst, arith, zero, suc, bool_byte, is_some, ∥∥₁_map, map-append, ObjectId, In, LiveEvent, Log, Begins, IsLiveRun, closed_stays, none_some, some_is, ChainRight, Refusal, View, OnlyHears, stays_both, Ghosts, own_in, During, AreInRow, CountsLeft, IsRest, IsStopped, LeavesOnly, LinksStill, chains_in, numbers_of, objects_in, one_if, sum_of, AreFrom, length_of, lengths_of, rights_of, length-map, common_steps}
+use Rattle.rcu_hash.proofs.Cited.Words.{IsUnretired, IsSome, Bool, ◌≡◌, ℕ, ◌+◌, List, [], ◌∷◌, ◌++◌, Option, None, Some, length, map, option_map, slice_get, set, inl, inr, refl, sym, ap, ◌∙◌, subst, arith, zero, suc, bool_byte, is_some, ∥∥₁_map, map-append, ObjectId, In, LiveEvent, Log, Begins, IsLiveRun, closed_stays, none_some, some_is, ChainRight, Refusal, View, OnlyHears, stays_both, Ghosts, own_in, During, AreInRow, CountsLeft, IsRest, IsStopped, LeavesOnly, LinksStill, chains_in, numbers_of, objects_in, one_if, sum_of, AreFrom, length_of, lengths_of, rights_of, length-map, common_steps}
 use Rattle.rcu_hash.proofs.Holds.{each_map, from_last, from_rights, lengths_many, rights_many}
 use Rattle.rcu_hash.proofs.Taking.{during_since}
 
@@ -72,6 +72,10 @@ module _ {X : Type 0} (f : X → View) where
   length_at (y ∷ ys) zero x at = ap (λ (z : X). Some (length_of (own_in (f z).chains))) (some_is y x at)
   length_at (y ∷ ys) (suc k) x at = length_at ys k x at
 
+-- a value is there as often as what is made of it
+pub some_mapped : {A B : Type 0} (f : A → B) (r s : Option A) → option_map f r ≡ option_map f s → IsSome r → IsSome s
+some_mapped f r s same is = grind arith
+
 pub only_both : {W S : Type 0} (w : Ghosts W S) (a b c : W) → OnlyHears w a b → OnlyHears w b c → OnlyHears w a c
 only_both w a b c x y = ((stays_both w a b c x.0.0 y.0.0, y.0.1 ∙ x.0.1), y.1 ∙ x.1)
 
@@ -81,6 +85,7 @@ module _ {W S : Type 0} (w : Ghosts W S) (qsbr : Bool) (allows : Log → LiveEve
   counts_since d chains left seen heard k = record {
     replaced = k.replaced;
     was = k.was;
+    waits = λ o is. during_since w qsbr allows a b c (IsUnretired o) seen heard (k.waits o is);
     still = each_map (λ p. During w qsbr allows b c (LinksStill d p)) (λ p. During w qsbr allows a c (LinksStill d p)) (λ p. during_since w qsbr allows a b c (LinksStill d p) seen heard) chains k.still;
     row = k.row;
     rest = k.rest;

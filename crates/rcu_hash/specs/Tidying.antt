@@ -20,6 +20,7 @@ use Rattle.rcu_list.specs.live_callbacks.Retiring.{Queues}
 use Rattle.rcu_list.specs.live_rule.Rights.{object_in, own_in}
 use Rattle.rcu_list.specs.live_read.Hearing.{FindsNothing, MakesMany}
 use Rattle.rcu_list.specs.live_read.declared.caller.Caller.{Ghosts}
+use Rattle.rcu_list.specs.live_write.Calls.{IsUnretired}
 use Rattle.rcu_list.specs.live_write.Chains.{list_in}
 use Rattle.rcu_list.specs.domain.Waiting.{LoadedOnce, Synchronized}
 use Rattle.rcu_list.specs.Calls.{HandsOver}
@@ -238,10 +239,12 @@ IsQueueAmong sizes d chains q = (q ≡ d % sizes.queues) ⊎ ((c : ℕ) × In ch
 
 module _ {W S : Type 0} (w : Ghosts W S) (qsbr : Bool) (allows : Log → LiveEvent → Type 0) (old new : W) where
   -- This many objects are left of earlier directories. Each chain linked as many as stand beside it, in some log of the
-  -- call. One more is the record of a directory that was replaced, if it is left. In the last log nothing else is left.
+  -- call. One more is the record of a directory that was replaced, if it is left: in some log of the call it was not
+  -- retired. In the last log nothing else is left.
   pub record CountsLeft (d : ℕ) (chains : List (ℕ × ℕ)) (left : ℕ) : Type 0 where
     pub replaced : Option ObjectId
     pub was : ∥ ((o : ObjectId) → replaced ≡ Some o → WasReplaced d o (w.heard new)) ∥₁
+    pub waits : (o : ObjectId) → replaced ≡ Some o → During w qsbr allows old new (IsUnretired o)
     pub still : Each (λ c. During w qsbr allows old new (LinksStill d c)) chains
     pub row : ∥ ((first : ℕ) × AreInRow first chains) ∥₁
     pub rest : ∥ LeavesOnly d (w.heard new) (In (numbers_of chains)) (λ o. replaced ≡ Some o) ∥₁

@@ -1,10 +1,12 @@
 //! What earlier directories left.
 
-ghost use Rattle.std.specs.Prelude.{◌≡◌, ◌≢◌, ℕ, ◌+◌, ◌^◌, ◌-◌, ◌<◌, IfSome, IsSome, map, min, option_map, vec_len};
+ghost use Rattle.std.specs.Prelude.{◌≡◌, ◌≢◌, ℕ, ◌+◌, ◌^◌, ◌-◌, ◌<◌, IfSome, IsSome, Some, length, map, min, option_map, vec_len};
+ghost use Rattle.rcu_model.specs.declared.event.ObjectId.{ObjectId};
 ghost use Rattle.live_log.specs.Log.{Begins, chain_note};
 ghost use Rattle.live_log.specs.Tables.{tabled};
 ghost use Rattle.rcu_list.specs.live_read.Hearing.{IsAfter, OnlyHears};
 ghost use Rattle.rcu_list.specs.live_rule.Rights.{object_in, own_in};
+ghost use Rattle.rcu_list.specs.live_write.Calls.{IsUnretired};
 ghost use Rattle.rcu_hash.specs.Growing.{HasLeft};
 ghost use Rattle.rcu_hash.specs.Refusing.{During};
 ghost use Rattle.rcu_hash.specs.Tables.{IsAmong};
@@ -54,6 +56,24 @@ fn count_objects<P: GracePlan, B: Site, D: Deleter>(
         many = many.saturating_add(chains[index].len());
     }
     many
+}
+
+/// The record, if there is one. Then the caller hears of a log in which it is not retired.
+fn hear_record<P: GracePlan + Drop, B: Site, D: Deleter, W: Caller<B>>(
+    chains: &[Chain<'_, P, Tabled, B, D>],
+    caller: &mut W,
+    unlinked: Option<Unlinked<B>>,
+) -> Option<Unlinked<B>>
+    requires some { IsSome unlinked → 0 < length chains.now }
+    ensures waits { (o : ObjectId) → option_map (λ u. object_in u.seat.me.0.object) unlinked ≡ Some o → During W.Caller P.QSBR tabled caller.old caller.new (IsUnretired o) }
+    ensures record { option_map (λ u. object_in u.seat.me.0.object) result ≡ option_map (λ u. object_in u.seat.me.0.object) unlinked }
+    ensures its { (d : ℕ) → IfSome unlinked (λ u. IsRecord d u.chain u.seat.me.0) → IfSome result (λ u. IsRecord d u.chain u.seat.me.0) }
+    ensures heard { Begins (W.heard caller.old) (W.heard caller.new) }
+    ensures same { OnlyHears W.Caller caller.old caller.new }
+{
+    let mut unlinked = unlinked?;
+    chains[0].domain().hear_unlinked(caller, &mut unlinked);
+    Some(unlinked)
 }
 
 impl<'d, P: GracePlan + Drop, B: Site, D: Deleter> DirectoryLock<'d, P, B, D> {
@@ -185,6 +205,7 @@ impl<'d, P: GracePlan + Drop, B: Site, D: Deleter> OldTable<'d, P, B, D> {
             handle,
         } = self;
         lock.hear_all(rt, naming, caller, &mut chains);
+        let unlinked = hear_record(&chains, caller, unlinked);
         let heard = OldTable {
             naming,
             unlinked,

@@ -1,5 +1,5 @@
 -- The two stores of a header that end an object's life keep the rule.
-use Rattle.step_records.proofs.Cited.{◌≡◌, ◌≢◌, ℕ, ◌+◌, ◌*◌, ◌/◌, ◌<◌, List, [], ◌∷◌, Bool, get_or, set, sym, refl, ap, ◌∙◌, subst, inl, inr, ⊎_elim, arith, get_or-set_other, get_or-set_same, Option, get_elem?, State, Me, step, keeps, Allows, ObjectId, In, in_objects, has_object_in, LiveEvent, Object, Retire, Run, Log, record_of, IsLiveRun, Objects, objects_of, Spot, head, link, Leads, by_object, kept_log, ready_stays, Sizes, View, RecordRight, Unlinked, Retired, Queued, cell_at, IsAlive, Header, ClaimsObject, KeepsRule, but_object, calm_object, heap_beside, header_same, object_stays, looks, look_all, IsQueued, IsRetired, IsUnlinked, cell_in, object_in, IsKnown, stored_view}
+use Rattle.step_records.proofs.Cited.{◌≡◌, ◌≢◌, ℕ, ◌+◌, ◌*◌, ◌/◌, ◌<◌, List, ◌∷◌, Bool, get_or, set, sym, refl, ap, ◌∙◌, subst, inl, inr, ⊎_elim, arith, get_or-set_other, get_or-set_same, Option, get_elem?, State, Me, step, keeps, Allows, ObjectId, In, in_objects, has_object_in, LiveEvent, Object, Retire, Run, Log, record_of, IsLiveRun, Objects, objects_of, Spot, head, link, Leads, by_object, kept_log, ready_stays, Sizes, View, RecordRight, Unlinked, Retired, Queued, cell_at, IsAlive, Header, ClaimsObject, KeepsRule, but_object, calm_object, heap_beside, header_same, object_stays, looks, look_all, IsQueued, IsUnlinked, cell_in, object_in, IsKnown, stored_view}
 use mathlib.Core.Option as lists
 use Rattle.step_records.specs.Records.{HasCut, IsRipe, retired_view, retired, ran, looked_payload}
 use Rattle.step_records.proofs.Records.{number_is, own_record, knew, cell_far, alive_far, fresh_far, last_less, head_same}
@@ -146,5 +146,6 @@ module _ {S : Type 0} (qsbr : Bool) (allows : Log → LiveEvent → Type 0) (key
           λ j low same.
               let here : a ≡ cell_at key (cell_in v.object) (j + 2) = same ∙ ap (λ (k : Sizes). cell_at k (cell_in v.object) (j + 2)) sizes in
               ap (λ (i : ℕ). get_or s.words i 0) here ∙ subst (λ (i : ℕ). get_or s.words (cell_at key i (j + 2)) 0 ≡ get_or (record_of r.log o).1 j 0) alive.1 (r.agree.heap.payload o alive.0 j low),
+          λ its. (knew qsbr allows key s r id v (Unlinked (cell_in v.object) o) at its refl).1,
         ),
       )

@@ -105,6 +105,7 @@ module _ {S : Type 0} (qsbr : Bool) (allows : Log → LiveEvent → Type 0) wher
   abbrev pub ran : Step S → Me S View → ℕ → Me S View → Type 0
   ran st m n m' = Did qsbr allows (stored_view st.word st.first (but_object m.0)) (Object (Run (object_in m.0.object))) m m'
 
-  -- a payload word of the seat's own object was looked at, which was cut and has not been run
+  -- A payload word of the seat's own object was looked at, which was cut and has not been run. With the right to retire
+  -- it the seat has seen a log in which it is not retired.
   abbrev pub looked_payload : Step S → Me S View → ℕ → Me S View → Type 0
-  looked_payload st m n m' = Went qsbr allows m.0 m m' × In (state_of m'.0.seen).used (object_in m.0.object) × ((j : ℕ) → j < 4 → st.word ≡ cell_at m.0.sizes (cell_in m.0.object) (j + 2) → n ≡ slice_index_or (record_of m'.0.seen (object_in m.0.object)).1 j 0)
+  looked_payload st m n m' = Went qsbr allows m.0 m m' × In (state_of m'.0.seen).used (object_in m.0.object) × ((j : ℕ) → j < 4 → st.word ≡ cell_at m.0.sizes (cell_in m.0.object) (j + 2) → n ≡ slice_index_or (record_of m'.0.seen (object_in m.0.object)).1 j 0) × (IsUnlinked m.0 → ¬ In (state_of m'.0.seen).retired (object_in m.0.object))

@@ -12,7 +12,8 @@ use crate::plays::{LooksPayload, Retires, Runs};
 use live_rule::{ChainRule, GracePlan, LiveSeat, LiveTable};
 
 /// Loads a payload word of the seat's object, which was cut and has not been run, the first one at `index` 0: the word
-/// that was noted with the object when it was published.
+/// that was noted with the object when it was published. A seat with the right to retire it has seen then a log in which
+/// it is not retired.
 pub fn load_payload<P: GracePlan, K: ChainRule>(
     table: &LiveTable<P, K>,
     seat: &mut LiveSeat,
@@ -25,6 +26,7 @@ pub fn load_payload<P: GracePlan, K: ChainRule>(
     ensures looked { Went P.QSBR K.allows seat.old.me.0 seat.old.me seat.new.me }
     ensures published { In (state_of seat.new.me.0.seen).used (object_in seat.old.me.0.object) }
     ensures word { result ≡ slice_index_or (record_of seat.new.me.0.seen (object_in seat.old.me.0.object)).1 index 0 }
+    ensures waits { IsUnlinked seat.old.me.0 → ¬ In (state_of seat.new.me.0.seen).retired (object_in seat.old.me.0.object) }
 {
     let place = table.cell_place(cell, index + 2);
     table.words.shared.load::<LooksPayload<P, K>>(seat, place)

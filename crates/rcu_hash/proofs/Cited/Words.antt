@@ -45,6 +45,7 @@ pub use Rattle.rcu_list.specs.live_rule.declared.view.Look.{Look}
 pub use Rattle.rcu_list.specs.live_rule.declared.view.Look.TheVariants.{Stored, Loaded}
 pub use Rattle.rcu_list.specs.live_rule.declared.view.Sizes.{Sizes}
 pub use Rattle.rcu_list.specs.live_rule.declared.view.View.{View}
+pub use Rattle.rcu_list.specs.live_write.Calls.{IsUnretired}
 pub use Rattle.rcu_list.specs.live_write.Chains.{MayPublish, Publishes, list_in, push_by, replace_by}
 pub use Rattle.rcu_list.specs.live_write.Searching.{AreTaken, GetsNoRecord, IsUsedUp, TakesRecord}
 pub use Rattle.rcu_list.specs.live_write.declared.records.Unlinked.{Unlinked}
