@@ -59,7 +59,7 @@ module _ {P : Type 0} (plans : Plans P) (layout : Layout) (slots : ℕ) (laws : 
     phase_low = k.phase_low;
     seq_low = k.seq_low;
     asks_low = let l = log_one w.log (events.Ask ask) [] w.grace.asks k.asks_low in omega (arith, l);
-    part = λ works' s. part_asked plans layout slots laws decide_asker (holder_of w.grace.holder) works works' words w.grace.asks seq w.grace.word c now.asked now.answered now.asked_sections
+    part = λ works' s. part_asked plans layout slots laws decide_asker (holder_of w.grace.holder) works works' words w.grace.asks seq w.grace.word (even_below (seq + 3)) now.asked now.answered now.asked_sections
         awaited now.sections y none s
         (cookie-above seq, cookie-near seq, cookie-even seq, let near = cookie-near seq in let even = cookie-even seq in omega (arith, near, even, below))
         (λ a n. at_number_other ask a now.sections now.asked_sections n) opens k.part;
@@ -70,9 +70,6 @@ module _ {P : Type 0} (plans : Plans P) (layout : Layout) (slots : ℕ) (laws : 
 
       ask : ℕ
       ask = w.grace.asks + 1
-
-      c : ℕ
-      c = even_below (seq + 3)
 
       fresh : ¬ In now.asked ask
       fresh h = let low = k.part.asks_kept.asked_low ask h in omega (arith, low)
@@ -233,7 +230,7 @@ module _ {P : Type 0} (plans : Plans P) (layout : Layout) (slots : ℕ) (laws : 
         p = plan_now plans w
 
         same : plan_now plans w ≡ plans.made layout slots seq w.grace.word
-        same = ap (λ l. plans.made l (length w.readers) seq w.grace.word) k.laid ∙ ap (λ n. plans.made layout n seq w.grace.word) k.sized
+        same = ap (λ l. plans.made l (length w.readers) seq w.grace.word) k.shape.laid ∙ ap (λ n. plans.made layout n seq w.grace.word) k.shape.sized
 
         order : StoresInOrder plans.action plans.taken seq p
         order = laws.all.keeps.order seq w.grace.word p (subst (laws.begun seq w.grace.word) (sym same) (laws.all.made seq w.grace.word))
@@ -241,14 +238,11 @@ module _ {P : Type 0} (plans : Plans P) (layout : Layout) (slots : ℕ) (laws : 
         first : plans.action p ≡ StoreSeq (seq + 1)
         first = order.first
 
-        first_finished : StoreSeq (seq + 1) ≡ Finished → ⊥
-        first_finished e = cc
-
         first_second : StoreSeq (seq + 1) ≡ StoreSeq (seq + 2) → ⊥
         first_second e = let n : seq + 1 ≡ seq + 2 = cc in omega (arith, n)
 
         ends : is_finished (plans.action (plans.taken p 0)) ≡ true → Owed (stepped (record w.grace { seq = seq + 1 }) ask (telling what.Answered core.Frees))
-        ends e = absurd (first_second (sym first ∙ (order.last [] 0 (λ f. first_finished (sym first ∙ f))).0 (finished_from (plans.action (plans.taken p 0)) e)))
+        ends e = absurd (first_second (sym first ∙ (order.last [] 0 (λ f. cc (sym first ∙ f))).0 (finished_from (plans.action (plans.taken p 0)) e)))
 
         low : seq + 1 ≤ 2 ^ 62 + 2
         low =
@@ -357,23 +351,11 @@ module _ {P : Type 0} (plans : Plans P) (layout : Layout) (slots : ℕ) (laws : 
           goes e = absurd (true≢false (sym (ap is_finished done) ∙ e))
 
       owes_action : (a : Action) → plans.action p ≡ a → Owed (done_with plans w ask (core.Runs c p) (Some (action_effect w a)))
-      owes_action (Load slot) does = owes_middle w.grace (loaded_word (slice_get w.readers slot)) (λ v e. load_store v (sym does ∙ e)) (λ s e. loaded_is slot ∙ ap words (same_slot s (sym does ∙ e)))
+      owes_action (Load slot) does = owes_middle w.grace (loaded_word (slice_get w.readers slot)) (λ v e. cc (sym does ∙ e)) (λ s e. loaded_is slot ∙ ap words (cc (sym does ∙ e)))
           (sym (ap (present_after w.grace.word) does)) steady (λ q. k.part.grace_kept.number_low q) k.phase_low refl refl refl
-        where
-          load_store : (v : ℕ) → Load slot ≡ StoreSeq v → ⊥
-          load_store v e = cc
-
-          same_slot : (s : ℕ) → Load slot ≡ Load s → slot ≡ s
-          same_slot s e = cc
-      owes_action (StorePhase value) does = owes_middle (record w.grace { word = value }) 0 (λ v e. phase_seq v (sym does ∙ e)) (λ s e. absurd (phase_load s (sym does ∙ e)))
+      owes_action (StorePhase value) does = owes_middle (record w.grace { word = value }) 0 (λ v e. cc (sym does ∙ e)) (λ s e. cc (sym does ∙ e))
           (sym (ap (present_after w.grace.word) does)) rises low phase refl refl refl
         where
-          phase_seq : (v : ℕ) → StorePhase value ≡ StoreSeq v → ⊥
-          phase_seq v e = cc
-
-          phase_load : (s : ℕ) → StorePhase value ≡ Load s → ⊥
-          phase_load s e = cc
-
           rises : plans.qsbr ≡ true → w.grace.word ≤ value
           rises q = subst (λ n. n ≤ value) running.present (laws.all.keeps.rises p value q does)
 

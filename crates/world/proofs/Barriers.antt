@@ -1,15 +1,15 @@
 -- What the steps of `barrier` keep, and that what they tell may come.
-use Rattle.world.proofs.Cited.{◌≡◌, ◌≢◌, ◌⊎◌, ⊎_elim, ℕ, true≢false, inl, inr, ◌+◌, ◌<◌, ◌≤◌, nat_le, nat_lt, ltb, not, true, false, List, [], ◌∷◌, ◌++◌, length, get_or, slice_get, slice_set, replicate, Option, None, Result, Ok, refl, sym, ap, ◌∙◌, subst, arith, length-append, get_or-set_other, get_or-set_same, length-set, leb-true, ltb-true, ltb-false, cond_both, slice_get-get_or, slice_get_past, Event, ObjectId, SectionId, Refusal, ObjectState, has_object, at_number, State, not_run, In, has_object_in, has_number_in, in_numbers, empty_from, at_number_same, at_number_other, filter_has, Layout, items_of, WorkerCore, Quiet, Life, QueueState, Barrier, BarrierStep, Note, Check, UpdaterPlace, Idle, Retires, Bars, UpdaterState, Change, Bar, empty_queue_state, Plans, BoardView, get_past, past_or_within, decide_number, life_of, Items, InQueue, queue_at, stands_above, stands_within}
+use Rattle.world.proofs.Cited.{◌≡◌, ◌≢◌, ◌⊎◌, ⊎_elim, ℕ, true≢false, inl, inr, ◌+◌, ◌<◌, ◌≤◌, nat_le, nat_lt, ltb, not, true, false, List, [], ◌∷◌, ◌++◌, length, get_or, slice_get, slice_set, replicate, Option, None, Result, Ok, refl, sym, ap, ◌∙◌, subst, arith, get_or-set_other, get_or-set_same, length-set, leb-true, ltb-true, ltb-false, cond_both, slice_get-get_or, slice_get_past, ObjectId, SectionId, Refusal, ObjectState, has_object, at_number, State, not_run, In, has_object_in, has_number_in, in_numbers, empty_from, at_number_same, at_number_other, filter_has, Layout, items_of, WorkerCore, Quiet, Life, QueueState, Barrier, BarrierStep, Note, Check, UpdaterPlace, Idle, Retires, Bars, UpdaterState, Change, Bar, empty_queue_state, Plans, BoardView, get_past, past_or_within, decide_number, life_of, Items, InQueue, queue_at, stands_above, stands_within}
 use Rattle.rcu_model.specs.declared.event.Event.TheVariants as events
 use Rattle.call_rcu_worker.specs.declared.worker.WorkerCore.TheVariants as worker
 use Rattle.world_state.specs.declared.object.Life.TheVariants as life
 use Rattle.world.specs.Answers.{one}
 use Rattle.world.specs.Queues.{at_place, queued_in, finished_in, after_note, noted_at, barrier_row}
 use Rattle.world.proofs.Fence.{Laws}
-use Rattle.world.proofs.State.{place_work, updater_at, worker_at, Kept}
+use Rattle.world.proofs.State.{place_work, updater_at, worker_at, Kept, at_updaters}
 use Rattle.world.proofs.KeptPublishing.{There}
-use Rattle.world.proofs.KeptReaders.{log_one}
-use Rattle.world.proofs.Callbacks.{LifeKept, RetireKept, WorkKept, Faces, IsAt, BarKept, Barring, CallbacksKept, Callbacks, at_updaters, queue_kept}
+use Rattle.world.proofs.KeptReaders.{longer, log_one}
+use Rattle.world.proofs.Callbacks.{LifeKept, RetireKept, WorkKept, Faces, IsAt, BarKept, Barring, CallbacksKept, Callbacks, queue_kept}
 use Rattle.world.proofs.Plain.{OwesAll}
 use Rattle.world.proofs.Beside.{kept_updater, beside}
 
@@ -29,12 +29,8 @@ finished_at qs i = ⊎_elim
 -- no more was finished than has left the queue
 pub finished_low : {P : Type 0} (ready waiting : Items) (noted : Option ℕ) (gone finished : ℕ) (asked : List ℕ) (awaited : ObjectId → List SectionId) (asked_sections : ℕ → List SectionId) (ask : ℕ) (place : WorkerCore P Unit) →
     WorkKept ready waiting noted gone finished asked awaited asked_sections ask place → finished ≤ gone
-finished_low ready waiting noted gone finished asked awaited asked_sections ask worker.Idle h = let all = h.2 in omega (arith, all)
-finished_low ready waiting noted gone finished asked awaited asked_sections ask (worker.Syncs place tickets) h = let all = h.1 in omega (arith, all)
-finished_low ready waiting noted gone finished asked awaited asked_sections ask (worker.Pops tickets) h = let all = h.3 in omega (arith, all)
-finished_low ready waiting noted gone finished asked awaited asked_sections ask (worker.Runs tickets ticket item) h = absurd h
-finished_low ready waiting noted gone finished asked awaited asked_sections ask (worker.Ran tickets ticket item) h = let all = h.2 in omega (arith, all)
-finished_low ready waiting noted gone finished asked awaited asked_sections ask (worker.Counts tickets ticket) h = absurd h
+finished_low ready waiting noted gone finished asked awaited asked_sections ask worker.Idle h = omega arith
+finished_low ready waiting noted gone finished asked awaited asked_sections ask _ h = omega arith
 
 -- a barrier where the machine's barriers change beside it
 bar_beside : {P : Type 0} (qs : List QueueState) (noted noted' cleared cleared' : List ℕ) (noted_objects noted_objects' : ℕ → List ObjectId) (p : UpdaterPlace P) →
@@ -71,18 +67,13 @@ module _ {P : Type 0} (plans : Plans P) (layout : Layout) (slots : ℕ) (laws : 
   abbrev place_of : ℕ → UpdaterPlace P
   place_of v = (updater_at w.updaters v).place
 
-  longer : (es : List Event) → length w.log ≤ length (w.log ++ es)
-  longer es = omega (arith, length-append w.log es)
-
   -- only the updater and the machine's barriers change
   bar_step : (x' : UpdaterState P) (barriers' logged' : ℕ) (noted' cleared' : List ℕ) (noted_objects' : ℕ → List ObjectId) → length w.log ≤ logged' → RetiresNone x'.place →
       BarKept qs noted' cleared' noted_objects' x'.place → ((v : ℕ) → v ≢ u → BarKept qs noted' cleared' noted_objects' (place_of v)) → ((n v : ℕ) → v ≢ u → Barring x'.place n → Barring (place_of v) n → ⊥) →
       ((b : ℕ) → In noted' b → b ≤ barriers') → ((b : ℕ) → In cleared' b → In noted' b) → barriers' ≤ logged' →
       CallbacksKept w.objects qs (slice_set w.updaters u x') w.workers barriers' logged' now.sections now.retired now.queued now.reclaimed now.awaited now.asked now.asked_sections noted' cleared' noted_objects'
   bar_step x' barriers' logged' noted' cleared' noted_objects' more none mine others alone low known bound = record {
-    some = k.some;
-    few = k.few;
-    manned = k.manned;
+    sizes = k.sizes;
     items = k.items;
     queues = λ j. queue_kept (queue_at qs j) (length w.log) logged' now.awaited now.awaited more (λ o e. e) (k.queues j);
     awaits_open = k.awaits_open;
@@ -91,9 +82,7 @@ module _ {P : Type 0} (plans : Plans P) (layout : Layout) (slots : ℕ) (laws : 
     working = k.working;
     barring = at_updaters (λ v y. BarKept qs noted' cleared' noted_objects' y.place) w.updaters u x' t.inside mine others;
     one_barrier = λ i j n. one i j n;
-    noted_low = low;
-    cleared_noted = known;
-    barriers_low = bound;
+    numbers = record { noted_low = low; cleared_noted = known; barriers_low = bound };
   }
     where
       -- one of them is the updater's, or neither is
@@ -122,7 +111,7 @@ module _ {P : Type 0} (plans : Plans P) (layout : Layout) (slots : ℕ) (laws : 
           at_count (inr n) = subst (λ m. s ≤ m) (sym (get_or-set_other counts i j (queued_in (slice_get qs i)) 0 n)) (facing (omega (arith, up, n)))
 
   note_at : (i : ℕ) → IsAt (after_note w i) count
-  note_at i = cond_both (ltb (i + 1) count) (Note (i + 1)) (Check 0) (λ d. IsAt d count) (λ e. ltb-true (i + 1) count e) (λ e. let some = k.some in omega (arith, some))
+  note_at i = cond_both (ltb (i + 1) count) (Note (i + 1)) (Check 0) (λ d. IsAt d count) (λ e. ltb-true (i + 1) count e) (λ e. let some = k.sizes.some in omega (arith, some))
 
   -- who is queued and was not run stands in a queue
   facing_all : (o : ObjectId) → In (not_run now) o → Faces qs (replicate 8 0) (Note 0) o
@@ -147,16 +136,16 @@ module _ {P : Type 0} (plans : Plans P) (layout : Layout) (slots : ℕ) (laws : 
   pub owes_barrier : x.place ≡ Idle → Owed (Ok (barrier_row w u x))
   owes_barrier was = (
     ((λ h. fresh (in_numbers now.noted b h)), tt),
-    beside plans layout slots laws _ now (kept_updater plans layout slots laws w now kept u x x' qs None b (w.log ++ events.Bar b ∷ []) t (longer (events.Bar b ∷ [])) (λ os. tt) refl (ap place_work was) refl)
+    beside plans layout slots laws _ now (kept_updater plans layout slots laws w now kept u x x' qs None b (w.log ++ events.Bar b ∷ []) t (longer w.log (events.Bar b ∷ [])) (λ os. tt) refl (ap place_work was) refl)
         now.retired now.queued now.reclaimed now.awaited (b ∷ now.noted) now.cleared noted_objects',
-    bar_step x' b (length (w.log ++ events.Bar b ∷ [])) (b ∷ now.noted) now.cleared noted_objects' (longer (events.Bar b ∷ [])) tt
-        (inl refl, (λ h. fresh (k.cleared_noted b h)), room', note_at 0, λ o h. note_faces (replicate 8 0) 0 o room at_zero (facing_all o (subst (λ (l : List ObjectId). In l o) (at_number_same b (not_run now) now.noted_objects) h)))
+    bar_step x' b (length (w.log ++ events.Bar b ∷ [])) (b ∷ now.noted) now.cleared noted_objects' (longer w.log (events.Bar b ∷ [])) tt
+        (inl refl, (λ h. fresh (k.numbers.cleared_noted b h)), room', note_at 0, λ o h. note_faces (replicate 8 0) 0 o room at_zero (facing_all o (subst (λ (l : List ObjectId). In l o) (at_number_same b (not_run now) now.noted_objects) h)))
         (λ v apart. bar_beside qs now.noted (b ∷ now.noted) now.cleared now.cleared now.noted_objects noted_objects' (place_of v)
         (λ n g h. (inr h, (λ c. c), λ o i. subst (λ (l : List ObjectId). In l o) (at_number_other b n (not_run now) now.noted_objects (λ e. fresh (subst (In now.noted) e h))) i)) (k.barring v))
         (λ n v apart mine theirs. fresh (subst (In now.noted) (sym mine) (barring_noted qs now.noted now.cleared now.noted_objects (place_of v) n (k.barring v) theirs)))
-        (λ n h. ⊎_elim (λ (e : b ≡ n). omega (arith, e)) (λ (g : In now.noted n). let low = k.noted_low n g in omega (arith, low)) h)
-        (λ n h. inr (k.cleared_noted n h))
-        (log_one w.log (events.Bar b) [] w.barriers k.barriers_low),
+        (λ n h. ⊎_elim (λ (e : b ≡ n). omega (arith, e)) (λ (g : In now.noted n). let low = k.numbers.noted_low n g in omega (arith, low)) h)
+        (λ n h. inr (k.numbers.cleared_noted n h))
+        (log_one w.log (events.Bar b) [] w.barriers k.numbers.barriers_low),
   )
     where
       b : ℕ
@@ -169,13 +158,13 @@ module _ {P : Type 0} (plans : Plans P) (layout : Layout) (slots : ℕ) (laws : 
       noted_objects' = at_number b (not_run now) now.noted_objects
 
       fresh : ¬ In now.noted b
-      fresh h = let low = k.noted_low b h in omega (arith, low)
+      fresh h = let low = k.numbers.noted_low b h in omega (arith, low)
 
       at_zero : 0 < count
-      at_zero = let some = k.some in omega (arith, some)
+      at_zero = let some = k.sizes.some in omega (arith, some)
 
       room : count ≤ length (replicate 8 (let z : ℕ = 0 in z))
-      room = k.few
+      room = k.sizes.few
 
       room' : count ≤ length (noted_at w (replicate 8 0) 0)
       room' = subst (λ n. count ≤ n) (sym (length-set (replicate 8 0) 0 (queued_in (slice_get qs 0)))) room
@@ -196,11 +185,11 @@ module _ {P : Type 0} (plans : Plans P) (layout : Layout) (slots : ℕ) (laws : 
         Owed (Ok (Bar u (at_place x (Bars b')) w.barriers Quiet))
     goes_on b' same room at faces = (
       tt,
-      kept_updater plans layout slots laws w now kept u x (at_place x (Bars b')) qs None w.barriers (w.log ++ []) t (longer []) (λ os. tt) refl (ap place_work was) refl,
-      bar_step (at_place x (Bars b')) w.barriers (length (w.log ++ [])) now.noted now.cleared now.noted_objects (longer []) tt
+      kept_updater plans layout slots laws w now kept u x (at_place x (Bars b')) qs None w.barriers (w.log ++ []) t (longer w.log []) (λ os. tt) refl (ap place_work was) refl,
+      bar_step (at_place x (Bars b')) w.barriers (length (w.log ++ [])) now.noted now.cleared now.noted_objects (longer w.log []) tt
           (subst (In now.noted) (sym same) mine.0, (λ h. mine.1 (subst (In now.cleared) same h)), room, at, λ o h. faces o (subst (λ n. In (now.noted_objects n) o) same h))
           (λ v apart. k.barring v)
-          (λ n v apart e theirs. alone n v apart (sym same ∙ e) theirs) k.noted_low k.cleared_noted (let low = k.barriers_low in let more = longer [] in omega (arith, low, more)),
+          (λ n v apart e theirs. alone n v apart (sym same ∙ e) theirs) k.numbers.noted_low k.numbers.cleared_noted (let low = k.numbers.barriers_low in let more = longer w.log [] in omega (arith, low, more)),
     )
 
     -- a count is noted
@@ -234,13 +223,13 @@ module _ {P : Type 0} (plans : Plans P) (layout : Layout) (slots : ℕ) (laws : 
       pub owes_clear : nat_lt (i + 1) count ≡ false → Owed (Ok (Bar u (at_place x Idle) w.barriers (one (events.Clear b.number))))
       owes_clear last = (
         ((has_number_in now.noted b.number mine.0, (λ h. mine.1 (in_numbers now.cleared b.number h)), empty_from (now.noted_objects b.number) none), tt),
-        beside plans layout slots laws _ now (kept_updater plans layout slots laws w now kept u x (at_place x Idle) qs None w.barriers (w.log ++ events.Clear b.number ∷ []) t (longer (events.Clear b.number ∷ [])) (λ os. tt) refl (ap place_work was) refl)
+        beside plans layout slots laws _ now (kept_updater plans layout slots laws w now kept u x (at_place x Idle) qs None w.barriers (w.log ++ events.Clear b.number ∷ []) t (longer w.log (events.Clear b.number ∷ [])) (λ os. tt) refl (ap place_work was) refl)
             now.retired now.queued now.reclaimed now.awaited now.noted (b.number ∷ now.cleared) now.noted_objects,
-        bar_step (at_place x Idle) w.barriers (length (w.log ++ events.Clear b.number ∷ [])) now.noted (b.number ∷ now.cleared) now.noted_objects (longer (events.Clear b.number ∷ [])) tt tt
+        bar_step (at_place x Idle) w.barriers (length (w.log ++ events.Clear b.number ∷ [])) now.noted (b.number ∷ now.cleared) now.noted_objects (longer w.log (events.Clear b.number ∷ [])) tt tt
             (λ v apart. bar_beside qs now.noted now.noted now.cleared (b.number ∷ now.cleared) now.noted_objects now.noted_objects (place_of v)
             (λ n g h. (h, (λ c d. ⊎_elim (λ (e : b.number ≡ n). alone n v apart e g) (λ (i : In now.cleared n). c i) d), λ o i. i)) (k.barring v))
-            (λ n v apart e theirs. e) k.noted_low (λ n h. ⊎_elim (λ (e : b.number ≡ n). subst (In now.noted) e mine.0) (λ (g : In now.cleared n). k.cleared_noted n g) h)
-            (let low = k.barriers_low in let more = longer (events.Clear b.number ∷ []) in omega (arith, low, more)),
+            (λ n v apart e theirs. e) k.numbers.noted_low (λ n h. ⊎_elim (λ (e : b.number ≡ n). subst (In now.noted) e mine.0) (λ (g : In now.cleared n). k.numbers.cleared_noted n g) h)
+            (let low = k.numbers.barriers_low in let more = longer w.log (events.Clear b.number ∷ []) in omega (arith, low, more)),
       )
         where
           past : (o : ObjectId) → Faces qs b.counts (Check (i + 1)) o → ⊥

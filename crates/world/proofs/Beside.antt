@@ -13,9 +13,7 @@ module _ {P : Type 0} (plans : Plans P) (layout : Layout) (slots : ℕ) (laws : 
       ((os : List ObjectState) → UpdaterKept w.heads os (length w.updaters) u x'.place) → x'.started ≡ x.started → place_work x.place ≡ Rests → place_work x'.place ≡ Rests →
       Kept plans layout slots laws (record w { updaters = slice_set w.updaters u x'; queues = queues'; objects = marked_life w.objects mark; barriers = barriers'; log = log' }) now
   kept_updater u x x' queues' mark barriers' log' t longer place polls was is = record {
-    laid = k.laid;
-    sized = k.sized;
-    some_slot = k.some_slot;
+    shape = k.shape;
     links_kept = links_marked w.objects mark w.heads now.chain now.used now.cut now.successor k.links_kept;
     places_kept = places_set plans layout slots laws w now k w.heads (marked_life w.objects mark) u x' t.inside (place (marked_life w.objects mark))
         (λ v p _ h. over_places plans layout slots laws w now k w.heads (marked_life w.objects mark) v (λ q. place_marked w.objects mark w.heads (length w.updaters) v q) p h);
@@ -41,7 +39,7 @@ module _ {P : Type 0} (plans : Plans P) (layout : Layout) (slots : ℕ) (laws : 
 
   -- a worker that rests goes on resting
   works_still : (n : ℕ) (x : WorkerState P) → n < length w.workers → worker_work (worker_at w.workers n).ask (worker_at w.workers n).core ≡ Rests → worker_work x.ask x.core ≡ Rests → PartBy (work_of w.updaters (slice_set w.workers n x))
-  works_still n x inside was is = subst PartBy same k.part
+  works_still n x inside was is = subst PartBy (λ i y. each y i) k.part
     where
       s : Sets (work_of w.updaters w.workers) (work_of w.updaters (slice_set w.workers n x)) (Working n) (worker_work x.ask x.core)
       s = worker_set n x inside
@@ -52,18 +50,13 @@ module _ {P : Type 0} (plans : Plans P) (layout : Layout) (slots : ℕ) (laws : 
           (λ (m : y ≢ Working n). sym (s.others y m))
           (decide_asker y (Working n))
 
-      same : work_of w.updaters w.workers ≡ work_of w.updaters (slice_set w.workers n x)
-      same = λ i y. each y i
-
   -- a worker's step, with what it makes of grace periods
   pub kept_work : (n : ℕ) (x : WorkerState P) (queues' : List QueueState) (mark : Option Mark) (grace : GraceState) (log' : List Event) (asked answered : List ℕ) (awaited : ℕ → List SectionId) → length w.log ≤ length log' →
       (plans.qsbr ≡ true → w.grace.word ≤ grace.word) → (plans.qsbr ≡ false → grace.word ≤ 1) → grace.seq ≤ 2 ^ 62 + 2 → grace.asks ≤ length log' →
       Part plans layout slots laws decide_asker (holder_of grace.holder) (work_of w.updaters (slice_set w.workers n x)) (word_at w.readers) grace.asks grace.seq grace.word asked answered awaited now.sections →
       Kept plans layout slots laws (record w { workers = slice_set w.workers n x; queues = queues'; objects = marked_life w.objects mark; grace = grace; log = log' }) (record now { asked = asked; answered = answered; asked_sections = awaited })
   kept_work n x queues' mark grace log' asked answered awaited longer rises phase low asks part = record {
-    laid = k.laid;
-    sized = k.sized;
-    some_slot = k.some_slot;
+    shape = k.shape;
     links_kept = links_marked w.objects mark w.heads now.chain now.used now.cut now.successor k.links_kept;
     places_kept = λ v. over_places plans layout slots laws w now k w.heads (marked_life w.objects mark) v (λ q. place_marked w.objects mark w.heads (length w.updaters) v q) (updater_at w.updaters v).place (k.places_kept v);
     readers_kept = readers_over plans.qsbr layout w.readers w.grace.word grace.word w.objects (marked_life w.objects mark) now.sections now.seen now.held rises (λ o known e. known (sym (stage_marked w.objects mark o) ∙ e)) k.readers_kept;
@@ -85,9 +78,7 @@ module _ {P : Type 0} (plans : Plans P) (layout : Layout) (slots : ℕ) (laws : 
   pub beside : (retired queued reclaimed : List ObjectId) (awaited : ObjectId → List SectionId) (noted cleared : List ℕ) (noted_objects : ℕ → List ObjectId) →
       Kept plans layout slots laws w (record now { retired = retired; queued = queued; reclaimed = reclaimed; awaited = awaited; noted = noted; cleared = cleared; noted_objects = noted_objects })
   beside retired queued reclaimed awaited noted cleared noted_objects = record {
-    laid = k.laid;
-    sized = k.sized;
-    some_slot = k.some_slot;
+    shape = k.shape;
     links_kept = k.links_kept;
     places_kept = k.places_kept;
     readers_kept = k.readers_kept;

@@ -1,5 +1,5 @@
 -- What the world keeps of retired objects, queues, workers and barriers beside the machine.
-use Rattle.world.proofs.Cited.{◌≡◌, ◌≢◌, ◌⊎◌, inl, inr, ℕ, ◌+◌, ◌%◌, ◌<◌, ◌≤◌, Bool, true, false, List, [], ◌∷◌, ◌++◌, length, get_or, slice_get, slice_set, Option, Some, None, sym, ap, subst, arith, get_or-set_other, get_or-set_same, Event, Open, Close, First, Next, Retire, Queue, Run, Ask, Clear, ObjectId, SectionId, without_section, at_number, State, IsAllowed, after, In, in_left, has_number_in, without_section_has, has_without_section, at_number_other, given_of, SyncCore, WorkerCore, Life, ObjectState, QueueState, BarrierStep, Note, Check, RetireStep, UpdaterPlace, Retires, Bars, UpdaterState, WorkerState, new_worker, changed_at, BoardView, idle, stage_of, chain_of, decide_number, life_of, Items, Has, InQueue, queue_at, changed_here, changed_else}
+use Rattle.world.proofs.Cited.{◌≡◌, ◌≢◌, ◌⊎◌, inl, inr, ℕ, ◌+◌, ◌%◌, ◌<◌, ◌≤◌, Bool, true, false, List, [], ◌∷◌, ◌++◌, length, get_or, slice_get, Option, Some, None, sym, ap, ◌∙◌, subst, arith, Event, Open, Close, First, Next, Retire, Queue, Run, Ask, Clear, ObjectId, SectionId, without_section, at_number, State, IsAllowed, after, In, in_left, has_number_in, without_section_has, has_without_section, at_number_other, given_of, SyncCore, WorkerCore, Life, ObjectState, QueueState, BarrierStep, Note, Check, RetireStep, UpdaterPlace, Retires, Bars, UpdaterState, WorkerState, changed_at, BoardView, stage_of, chain_of, decide_number, life_of, Items, Has, InQueue, queue_at, changed_here, changed_else}
 use Rattle.rcu_model.specs.declared.event.Event.TheVariants.{Bar}
 use Rattle.call_rcu_worker.specs.declared.sync.SyncCore.TheVariants as core
 use Rattle.call_rcu_worker.specs.declared.worker.WorkerCore.TheVariants as worker
@@ -15,10 +15,14 @@ LifeKept life.Retired o retired queued reclaimed = In retired o × (¬ In queued
 LifeKept life.Queued o retired queued reclaimed = In retired o × In queued o × (¬ In reclaimed o)
 LifeKept life.Reclaimed o retired queued reclaimed = In retired o × In queued o × In reclaimed o
 
+-- it stands in a queue
+abbrev pub Found : List QueueState → ObjectId → Type 0
+Found qs o = (j : ℕ) × (t : ℕ) × (j < length qs) × InQueue (queue_at qs j) t o
+
 -- objects and the items of queues: who is queued stands in one queue, at one place
 pub record ItemsKept (os : List ObjectState) (qs : List QueueState) (retired queued reclaimed : List ObjectId) : Type 0 where
   pub lives : (o : ObjectId) → LifeKept (life_of os o) o retired queued reclaimed
-  pub found : (o : ObjectId) → life_of os o ≡ life.Queued → (j : ℕ) × (t : ℕ) × (j < length qs) × InQueue (queue_at qs j) t o
+  pub found : (o : ObjectId) → life_of os o ≡ life.Queued → Found qs o
   pub there : (j t : ℕ) (o : ObjectId) → InQueue (queue_at qs j) t o → life_of os o ≡ life.Queued
   pub one_place : (i j s t : ℕ) (o : ObjectId) → InQueue (queue_at qs i) s o → InQueue (queue_at qs j) t o → (i ≡ j) × (s ≡ t)
 
@@ -101,11 +105,27 @@ abbrev pub Barring : {P : Type 0} → UpdaterPlace P → ℕ → Type 0
 Barring (Bars b) n = b.number ≡ n
 Barring _ n = ⊥
 
-pub record CallbacksKept {P : Type 0} (os : List ObjectState) (qs : List QueueState) (updaters : List (UpdaterState P)) (workers : List (WorkerState P)) (barriers logged : ℕ)
-    (sections : List SectionId) (retired queued reclaimed : List ObjectId) (awaited : ObjectId → List SectionId) (asked : List ℕ) (asked_sections : ℕ → List SectionId) (noted cleared : List ℕ) (noted_objects : ℕ → List ObjectId) : Type 0 where
+-- there is a queue for each worker, and few of them
+pub record Sizes {P : Type 0} (qs : List QueueState) (workers : List (WorkerState P)) : Type 0 where
   pub some : 1 ≤ length qs
   pub few : length qs ≤ 8
   pub manned : length workers ≡ length qs
+
+pub sizes_over : {P : Type 0} {qs qs' : List QueueState} {workers workers' : List (WorkerState P)} → length qs' ≡ length qs → length workers' ≡ length workers → Sizes qs workers → Sizes qs' workers'
+sizes_over queues same s = record { some = subst (λ n. 1 ≤ n) (sym queues) s.some; few = subst (λ n. n ≤ 8) (sym queues) s.few; manned = same ∙ s.manned ∙ sym queues }
+
+-- what was noted has a number, and nothing else was cleared
+pub record Numbers (barriers logged : ℕ) (noted cleared : List ℕ) : Type 0 where
+  pub noted_low : (b : ℕ) → In noted b → b ≤ barriers
+  pub cleared_noted : (b : ℕ) → In cleared b → In noted b
+  pub barriers_low : barriers ≤ logged
+
+pub numbers_over : {barriers logged logged' : ℕ} {noted cleared : List ℕ} → logged ≤ logged' → Numbers barriers logged noted cleared → Numbers barriers logged' noted cleared
+numbers_over longer n = record { noted_low = n.noted_low; cleared_noted = n.cleared_noted; barriers_low = let low = n.barriers_low in omega (arith, low, longer) }
+
+pub record CallbacksKept {P : Type 0} (os : List ObjectState) (qs : List QueueState) (updaters : List (UpdaterState P)) (workers : List (WorkerState P)) (barriers logged : ℕ)
+    (sections : List SectionId) (retired queued reclaimed : List ObjectId) (awaited : ObjectId → List SectionId) (asked : List ℕ) (asked_sections : ℕ → List SectionId) (noted cleared : List ℕ) (noted_objects : ℕ → List ObjectId) : Type 0 where
+  pub sizes : Sizes qs workers
   pub items : ItemsKept os qs retired queued reclaimed
   pub queues : (j : ℕ) → QueueKept (queue_at qs j) logged awaited
   pub awaits_open : (o : ObjectId) (s : SectionId) → In (awaited o) s → In sections s
@@ -113,29 +133,14 @@ pub record CallbacksKept {P : Type 0} (os : List ObjectState) (qs : List QueueSt
   pub working : (k : ℕ) → WorkAt (queue_at qs k) asked awaited asked_sections (worker_at workers k)
   pub barring : (u : ℕ) → BarKept qs noted cleared noted_objects (updater_at updaters u).place
   pub one_barrier : (u v n : ℕ) → Barring (updater_at updaters u).place n → Barring (updater_at updaters v).place n → u ≡ v
-  pub noted_low : (b : ℕ) → In noted b → b ≤ barriers
-  pub cleared_noted : (b : ℕ) → In cleared b → In noted b
-  pub barriers_low : barriers ≤ logged
+  pub numbers : Numbers barriers logged noted cleared
 
 abbrev pub Callbacks : {P : Type 0} → BoardView P → State → Type 0
 Callbacks w now =
     CallbacksKept w.objects w.queues w.updaters w.workers w.barriers (length w.log)
     now.sections now.retired now.queued now.reclaimed now.awaited now.asked now.asked_sections now.noted now.cleared now.noted_objects
 
--- one of a list is set, and what holds of each still holds
-at_each : {X : Type 0} (d : X) (F : ℕ → X → Type 0) (xs : List X) (u : ℕ) (x : X) → u < length xs → F u x → ((v : ℕ) → v ≢ u → F v (get_or xs v d)) → (v : ℕ) → F v (get_or (slice_set xs u x) v d)
-at_each d F xs u x inside mine others v = by (decide_number v u)
-  where
-    by : (v ≡ u) ⊎ (v ≢ u) → F v (get_or (slice_set xs u x) v d)
-    by (inl e) = subst (λ n. F n (get_or (slice_set xs u x) n d)) (sym e) (subst (F u) (sym (get_or-set_same xs u x d inside)) mine)
-    by (inr n) = subst (F v) (sym (get_or-set_other xs u v x d n)) (others v n)
-
-pub at_updaters : {P : Type 0} (F : ℕ → UpdaterState P → Type 0) (updaters : List (UpdaterState P)) (u : ℕ) (x : UpdaterState P) → u < length updaters → F u x → ((v : ℕ) → v ≢ u → F v (updater_at updaters v)) → (v : ℕ) → F v (updater_at (slice_set updaters u x) v)
-at_updaters = at_each idle
-
-pub at_workers : {P : Type 0} (F : ℕ → WorkerState P → Type 0) (workers : List (WorkerState P)) (u : ℕ) (x : WorkerState P) → u < length workers → F u x → ((v : ℕ) → v ≢ u → F v (worker_at workers v)) → (v : ℕ) → F v (worker_at (slice_set workers u x) v)
-at_workers = at_each new_worker
-
+-- one queue changes, and what holds of each still holds
 pub at_queues : (F : ℕ → QueueState → Type 0) (f : QueueState → QueueState) (qs : List QueueState) (j : ℕ) → j < length qs → F j (f (queue_at qs j)) → ((i : ℕ) → i ≢ j → F i (queue_at qs i)) → (i : ℕ) → F i (queue_at (changed_at f qs j (slice_get qs j)) i)
 at_queues F f qs j inside mine others i = by (decide_number i j)
   where
@@ -201,9 +206,7 @@ module _ {P : Type 0} (w : BoardView P) (now : State) (k : Callbacks w now) wher
       ((o : ObjectId) (a : ℕ) → In now.asked a → Covered now.awaited now.asked_sections o a → Covered awaited' asked_sections' o a) →
       Callbacks w (record now { sections = sections'; awaited = awaited'; asked = asked'; asked_sections = asked_sections' })
   over_sections sections' awaited' asked' asked_sections' opens frees asks covers = record {
-    some = k.some;
-    few = k.few;
-    manned = k.manned;
+    sizes = k.sizes;
     items = k.items;
     queues = λ j. queue_kept (queue_at w.queues j) (length w.log) (length w.log) now.awaited awaited' (omega arith) frees (k.queues j);
     awaits_open = opens;
@@ -211,9 +214,7 @@ module _ {P : Type 0} (w : BoardView P) (now : State) (k : Callbacks w now) wher
     working = λ j. work_at now.asked asked' now.awaited awaited' now.asked_sections asked_sections' asks (queue_at w.queues j) (worker_at w.workers j) (λ o a h. covers o a) (k.working j);
     barring = k.barring;
     one_barrier = k.one_barrier;
-    noted_low = k.noted_low;
-    cleared_noted = k.cleared_noted;
-    barriers_low = k.barriers_low;
+    numbers = k.numbers;
   }
 
   -- what such an event keeps
@@ -231,7 +232,5 @@ module _ {P : Type 0} (w : BoardView P) (now : State) (k : Callbacks w now) wher
   over_event (Bar b) is allowed = absurd is
   over_event (Clear b) is allowed = absurd is
   over_event (First s c None) is allowed = k
-  over_event (First s c (Some o)) is allowed = k
   over_event (Next s o None) is allowed = k
-  over_event (Next s o (Some p)) is allowed = k
   over_event _ is allowed = k

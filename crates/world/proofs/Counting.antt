@@ -66,11 +66,19 @@ module _ {P : Type 0} (plans : Plans P) (layout : Layout) (slots : ℕ) (laws : 
   counted_step most w n line c = by (change_of plans w line) placed (logged_step plans layout slots laws w line c.logged)
     where
       placed : Each plans w (λ l. Places) line (change_of plans w line)
-      placed = by_law plans w (λ l. Places) (places plans w (let same = c.logged.kept.sized in omega (arith, same, most)) c.few_chains c.logged.callbacks.some c.logged.callbacks.few) line
+      placed = by_law plans w (λ l. Places) (places plans w (let same = c.logged.kept.shape.sized in omega (arith, same, most)) c.few_chains c.logged.callbacks.sizes.some c.logged.callbacks.sizes.few) line
+
+      told_more : (w' : BoardView P) (answer : Answer) → w'.log ≡ w.log ++ told answer → w'.heads ≡ w.heads → length w'.objects ≡ length w.objects → Every IsPlaced (told answer) → Logged plans layout slots laws w' → Counted w' (n + 1)
+      told_more w' answer log heads long p l = record {
+        logged = l;
+        few_chains = subst (λ (hs : List (Option ObjectId)). length hs ≤ 64) (sym heads) c.few_chains;
+        log = subst (λ (es : List Event). length es ≤ 2 * (n + 1)) (sym log) (log_low w.log answer n c.log);
+        objects = objects_low w.objects w'.objects n long c.objects;
+        placed = subst (Every IsPlaced) (sym log) (every_append IsPlaced w.log (told answer) c.placed p);
+      }
 
       by : (x : Result (Change P) Refusal) → Each plans w (λ l. Places) line x → Logged plans layout slots laws ((with_change w x).world) → Counted ((with_change w x).world) (n + 1)
-      by (Ok (Read r step)) p l =
-          record { logged = l; few_chains = c.few_chains; log = log_low w.log step.answer n c.log; objects = objects_low w.objects w.objects n refl c.objects; placed = every_append IsPlaced w.log (told step.answer) c.placed p }
+      by (Ok (Read r step)) p l = told_more _ step.answer refl refl refl p l
       by (Ok (Begin u x y)) p l = record {
         logged = l;
         few_chains = c.few_chains;
@@ -89,24 +97,10 @@ module _ {P : Type 0} (plans : Plans P) (layout : Layout) (slots : ℕ) (laws : 
             objects = objects_low w.objects _ n (spliced_length w.objects s) c.objects;
             placed = every_append IsPlaced w.log (e ∷ []) c.placed (publishes w _ e c.few_chains (omega (arith, heads, few)) refl p c.logged l, tt);
           }
-      by (Ok (Grace u x grace answer)) p l =
-          record { logged = l; few_chains = c.few_chains; log = log_low w.log answer n c.log; objects = objects_low w.objects w.objects n refl c.objects; placed = every_append IsPlaced w.log (told answer) c.placed p }
-      by (Ok (Retiring u x q act mark answer)) p l = record {
-        logged = l;
-        few_chains = c.few_chains;
-        log = log_low w.log answer n c.log;
-        objects = objects_low w.objects _ n (marked_length w.objects mark) c.objects;
-        placed = every_append IsPlaced w.log (told answer) c.placed p;
-      }
-      by (Ok (Barring u x barriers answer)) p l =
-          record { logged = l; few_chains = c.few_chains; log = log_low w.log answer n c.log; objects = objects_low w.objects w.objects n refl c.objects; placed = every_append IsPlaced w.log (told answer) c.placed p }
-      by (Ok (Work k x grace act mark answer)) p l = record {
-        logged = l;
-        few_chains = c.few_chains;
-        log = log_low w.log answer n c.log;
-        objects = objects_low w.objects _ n (marked_length w.objects mark) c.objects;
-        placed = every_append IsPlaced w.log (told answer) c.placed p;
-      }
+      by (Ok (Grace u x grace answer)) p l = told_more _ answer refl refl refl p l
+      by (Ok (Retiring u x q act mark answer)) p l = told_more _ answer refl refl (marked_length w.objects mark) p l
+      by (Ok (Barring u x barriers answer)) p l = told_more _ answer refl refl refl p l
+      by (Ok (Work k x grace act mark answer)) p l = told_more _ answer refl refl (marked_length w.objects mark) p l
       by _ p l = record { logged = l; few_chains = c.few_chains; log = let low = c.log in omega (arith, low); objects = objects_low w.objects w.objects n refl c.objects; placed = c.placed }
 
   counted_lines : slots ≤ 64 → (w : BoardView P) (n : ℕ) (lines : List Line) → Counted w n → Counted (world_after plans w lines) (n + length lines)
@@ -138,7 +132,7 @@ module _ {P : Type 0} (plans : Plans P) (layout : Layout) (slots : ℕ) (laws : 
     ask_low a h = let own = k.part.asks_kept.asked_low a h in let low = k.asks_low in let log = c.log in omega (arith, own, low, log)
 
     barrier_low : (b : ℕ) → In (after_all start w.log).noted b → b ≤ 2 * n
-    barrier_low b h = let own = c.logged.callbacks.noted_low b h in let low = c.logged.callbacks.barriers_low in let log = c.log in omega (arith, own, low, log)
+    barrier_low b h = let own = c.logged.callbacks.numbers.noted_low b h in let low = c.logged.callbacks.numbers.barriers_low in let log = c.log in omega (arith, own, low, log)
 
     numbered : (e : Event) → IsPlaced e → Knows (after_all start w.log) e → IsNumberedWithin (2 * n) e
     numbered (Open s) p h = (p, ordinal_low s h)

@@ -27,6 +27,9 @@ Holds Rests = ⊥
 Holds (Waits b d) = ⊥
 Holds _ = Unit {0}
 
+pub holding : {P : Type 0} (w v : Work P) → w ≡ v → Holds v → Holds w
+holding {P} w v is h = subst (λ (u : Work P). Holds u) (sym is) h
+
 abbrev pub RunsNone : {P : Type 0} → Work P → Type 0
 RunsNone {P} w = (a c : ℕ) (p : P) → w ≢ Runs a c p
 
@@ -137,19 +140,13 @@ module _ {P : Type 0} (plans : Plans P) (layout : Layout) (slots : ℕ) (laws : 
         let k = f x a c s pending h.0 in
         (k.0, λ y b d p run low. let o = k.1 y b d p run low in (o.0, o.1, h.1 o.0 o.2))
 
-    only_holder : (holder : Option A) (works : A → Work P) (seq number : ℕ) (x y : A) → GraceKept holder works seq number → Holds (works x) → Holds (works y) → y ≡ x
-    only_holder holder works seq number x y k mine theirs = some_same (sym (k.held y theirs) ∙ k.held x mine)
-      where
-        some_same : Some y ≡ Some x → y ≡ x
-        some_same e = cc
-
-    runs_holds : (w : Work P) (a c : ℕ) (p : P) → w ≡ Runs a c p → Holds w
-    runs_holds w a c p e = subst (λ (v : Work P). Holds v) (sym e) tt
+    pub only_holder : (holder : Option A) (works : A → Work P) (seq number : ℕ) (x y : A) → GraceKept holder works seq number → Holds (works x) → Holds (works y) → y ≡ x
+    only_holder holder works seq number x y k mine theirs = cc (k.held y theirs, k.held x mine)
 
     -- who holds the lock and runs no plan leaves the sequence number even
     pub even_at : (holder : Option A) (works : A → Work P) (seq number : ℕ) (x : A) → GraceKept holder works seq number → Holds (works x) → RunsNone (works x) → seq % 2 ≡ 0
     even_at holder works seq number x k mine none =
-        k.even (λ y a c p e. none a c p (ap works (sym (only_holder holder works seq number x y k mine (runs_holds (works y) a c p e))) ∙ e))
+        k.even (λ y a c p e. none a c p (ap works (sym (only_holder holder works seq number x y k mine (holding (works y) (Runs a c p) e tt))) ∙ e))
 
     -- a work that is set to one that runs no plan, from one that ran none
     pub grace_set : (holder holder' : Option A) (works works' : A → Work P) (seq number : ℕ) (x : A) (w : Work P) → Sets works works' x w → RunsNone (works x) → RunsNone w →
@@ -173,30 +170,27 @@ module _ {P : Type 0} (plans : Plans P) (layout : Layout) (slots : ℕ) (laws : 
       number_low = k.number_low;
     }
 
+    -- who waits for an answer once a work is set, did before
+    pub pending_was : (works works' : A → Work P) (x : A) (w : Work P) → Sets works works' x w → ((a c : ℕ) → Pending w a c → Pending (works x) a c) → (y : A) (a c : ℕ) → Pending (works' y) a c → Pending (works y) a c
+    pending_was works works' x w s less y a c h = ⊎_elim
+        (λ (e : (y ≡ x) × Pending w a c). subst (λ z. Pending (works z) a c) (sym e.0) (less a c e.1))
+        (λ (n : (y ≢ x) × Pending (works y) a c). n.1)
+        (set_cases decide works works' x w s (λ (v : Work P). Pending v a c) y h)
+
     -- a work that is set to one with the same ask, or with none
     pub asks_set : (works works' : A → Work P) (asks seq : ℕ) (asked answered : List ℕ) (x : A) (w : Work P) → Sets works works' x w → ((a c : ℕ) → Pending w a c → Pending (works x) a c) →
         AsksKept works asks seq asked answered → AsksKept works' asks seq asked answered
     asks_set works works' asks seq asked answered x w s less k = record {
       asked_low = k.asked_low;
       answered_asked = k.answered_asked;
-      pending = λ y a c h. k.pending y a c (was y a c h);
-      one_each = λ y z a c d h i. k.one_each y z a c d (was y a c h) (was z a d i);
+      pending = λ y a c h. k.pending y a c (pending_was works works' x w s less y a c h);
+      one_each = λ y z a c d h i. k.one_each y z a c d (pending_was works works' x w s less y a c h) (pending_was works works' x w s less z a d i);
     }
-      where
-        was : (y : A) (a c : ℕ) → Pending (works' y) a c → Pending (works y) a c
-        was y a c h =
-            ⊎_elim
-            (λ (e : (y ≡ x) × Pending w a c). subst (λ z. Pending (works z) a c) (sym e.0) (less a c e.1))
-            (λ (n : (y ≢ x) × Pending (works y) a c). n.1)
-            (set_cases decide works works' x w s (λ (v : Work P). Pending v a c) y h)
 
     pub fenced_set : (works works' : A → Work P) (words : ℕ → ℕ) (seq : ℕ) (awaited : ℕ → List SectionId) (x : A) (w : Work P) → Sets works works' x w → ((a c : ℕ) → Pending w a c → Pending (works x) a c) →
         RunsNone w → Fenced works words seq awaited → Fenced works' words seq awaited
     fenced_set works works' words seq awaited x w s less none f y a c t h has =
-        let was : Pending (works y) a c = ⊎_elim
-        (λ (e : (y ≡ x) × Pending w a c). subst (λ z. Pending (works z) a c) (sym e.0) (less a c e.1))
-        (λ (n : (y ≢ x) × Pending (works y) a c). n.1)
-        (set_cases decide works works' x w s (λ (v : Work P). Pending v a c) y h) in
+        let was = pending_was works works' x w s less y a c h in
         let k = f y a c t was has in (
           k.0,
           λ z b d p run low. ⊎_elim
@@ -272,13 +266,10 @@ module _ {P : Type 0} (plans : Plans P) (layout : Layout) (slots : ℕ) (laws : 
     fenced_asked works works' words asks seq c asked answered awaited awaited' x s above others k f y a d t h has =
         by (set_cases decide works works' x (Waits (asks + 1) c) s (λ (v : Work P). Pending v a d) y h)
       where
-        waits_runs : (b e : ℕ) (p : P) → Waits (asks + 1) c ≡ Runs b e p → ⊥
-        waits_runs b e p i = cc
-
         still : (z : A) (b e : ℕ) (p : P) → works' z ≡ Runs b e p → works z ≡ Runs b e p
         still z b e p run =
             ⊎_elim
-            (λ (i : (z ≡ x) × (Waits (asks + 1) c ≡ Runs b e p)). absurd (waits_runs b e p i.1))
+            (λ (i : (z ≡ x) × (Waits (asks + 1) c ≡ Runs b e p)). cc (i.1))
             (λ (n : (z ≢ x) × (works z ≡ Runs b e p)). n.1)
             (set_cases decide works works' x (Waits (asks + 1) c) s (λ (v : Work P). v ≡ Runs b e p) z run)
 

@@ -1,6 +1,6 @@
 -- In each world that lines lead to, a row whose tests pass is made: nothing is missing. And a scan waits exactly where
 -- the word that it loads stands in the way.
-use Rattle.world.proofs.Cited.{◌≡◌, ◌≢◌, ◌+◌, ◌<◌, ◌≤◌, ◌==◌, ℕ, true≢false, not, Bool, true, false, List, [], ◌∷◌, length, get_or, slice_get, Option, Some, None, Ok, Err, refl, sym, ap, ◌∙◌, subst, arith, cond-true, mod_below, slice_get-get_or, slice_get_within, get_or_from_slice_get, none-some, ObjectId, State, start, after_all, Layout, count_of, fresh, Action, Finished, after_loads, turn_at, Item, object_with, SyncCore, WorkerCore, new_core, turned, told_of, Change, Line, Reader, Updater, Worker, UpdaterVerb, WorkerVerb, Fresh, Linked, QueueState, ReaderState, Holder, Publishing, RetireStep, UpdaterPlace, Publishes, Syncs, UpdaterState, WorkerState, new_worker, empty_queue_state, is_open_in, Plans, BoardView, answer_of, idle, PlaceKept, no_object, within}
+use Rattle.world.proofs.Cited.{◌≡◌, ◌+◌, ◌<◌, ◌==◌, ℕ, true≢false, not, Bool, true, false, List, [], ◌∷◌, length, get_or, slice_get, Option, Some, None, Ok, Err, refl, sym, ap, ◌∙◌, subst, arith, cond-true, mod_below, slice_get-get_or, slice_get_within, get_or_from_slice_get, none-some, ObjectId, State, start, after_all, Layout, count_of, fresh, Action, Finished, after_loads, turn_at, Item, object_with, SyncCore, WorkerCore, new_core, turned, told_of, Change, Line, Reader, Updater, Worker, UpdaterVerb, WorkerVerb, Fresh, Linked, QueueState, ReaderState, Holder, Publishing, RetireStep, UpdaterPlace, Publishes, Syncs, UpdaterState, WorkerState, new_worker, empty_queue_state, is_open_in, Plans, BoardView, answer_of, idle, PlaceKept, no_object, within}
 use Rattle.call_rcu_worker.specs.declared.sync.SyncCore.TheVariants as core
 use Rattle.call_rcu_worker.specs.declared.worker.WorkerCore.TheVariants as worker
 use Rattle.world_state.specs.declared.line.UpdaterVerb.TheVariants as updater
@@ -19,11 +19,11 @@ use Rattle.world.specs.Workers.{first_in, worker_on, worked, ask_for, is_resting
 use Rattle.world.proofs.Asking.{is_present}
 use Rattle.world.proofs.Callbacks.{WorkAt}
 use Rattle.world.proofs.Fence.{Laws, Running}
-use Rattle.world.proofs.GraceRows.{turn_of}
+use Rattle.world.proofs.GraceRows.{TurnRow, Blocking, Standing, turn_of}
 use Rattle.world.proofs.KeptReaders.{there as reader_there}
 use Rattle.world.proofs.Logged.{Logged}
 use Rattle.world.proofs.Prompt.{prompt_reads}
-use Rattle.world.proofs.Rows.{WasAt, WorkedAt, Lack, NoNext, NoEntry, NoQueue, NoPushed, NoReplaced, NoBatch, NoneReady, NotRun, NotCounted, reads_by, Sweep, sweep}
+use Rattle.world.proofs.Rows.{BySync, ByTurn, ByRetire, UpdaterRows, WasAt, WorkedAt, Lack, NoNext, NoEntry, NoQueue, NoPushed, NoReplaced, NoBatch, NoneReady, NotRun, NotCounted, Sweep, sweep}
 use Rattle.world.proofs.State.{Asker, Syncing, Working, UpdaterKept, core_work, place_work, worker_work, work_of}
 use Rattle.world.proofs.Tests.{Passes, Makes, not_false, Decides, steps_by}
 
@@ -60,24 +60,24 @@ module _ {P : Type 0} (plans : Plans P) (layout : Layout) (slots : ℕ) (laws : 
     closed : (r : ℕ) (v : ReaderState) (copied : ℕ) → slice_get w.readers r ≡ Some v → v.copy ≡ Some copied → plans.qsbr ≡ false → (count_of w.layout v.word == 0) ≡ true
     closed r v copied was has memb =
         let t = reader_there plans layout slots laws w now l.kept r v was in
-        not_false (ap (λ b. is_open_in b w.layout v.word) (sym memb) ∙ ap (λ k. is_open_in plans.qsbr k v.word) l.kept.laid ∙ (t.mine.copying copied has).0 memb)
+        not_false (ap (λ b. is_open_in b w.layout v.word) (sym memb) ∙ ap (λ k. is_open_in plans.qsbr k v.word) l.kept.shape.laid ∙ (t.mine.copying copied has).0 memb)
 
     place_now : (u : ℕ) (x : UpdaterState P) (what : Publishing) → WasAt plans w u x (Publishes what) → PlaceKept w.heads w.objects (length w.updaters) u what
     place_now u x what at = subst (λ (p : UpdaterPlace P). UpdaterKept w.heads w.objects (length w.updaters) u p) (ap (λ (y : UpdaterState P). y.place) (get_or_from_slice_get w.updaters u x idle at.was) ∙ at.at) (l.kept.places_kept u)
 
     -- a worker that pops has a ready item, and rests neither before it runs an item nor before it counts it
-    work_now : (k : ℕ) (x : WorkerState P) (core : WorkerCore P Unit) → WorkedAt plans w k x core → WorkAt (get_or w.queues k empty_queue_state) now.asked now.awaited now.asked_sections (record x { core = core })
+    pub work_now : (k : ℕ) (x : WorkerState P) (core : WorkerCore P Unit) → WorkedAt plans w k x core → WorkAt (get_or w.queues k empty_queue_state) now.asked now.awaited now.asked_sections (record x { core = core })
     work_now k x core at = subst (λ (c : WorkerCore P Unit). WorkAt (get_or w.queues k empty_queue_state) now.asked now.awaited now.asked_sections (record x { core = c })) at.at
         (subst (λ (y : WorkerState P). WorkAt (get_or w.queues k empty_queue_state) now.asked now.awaited now.asked_sections y) (get_or_from_slice_get w.workers k x new_worker at.was) (l.callbacks.working k))
 
     manned : (k : ℕ) (x : WorkerState P) → slice_get w.workers k ≡ Some x → k < length w.queues
-    manned k x was = subst (λ m. k < m) l.callbacks.manned (slice_get_within w.workers k x was)
+    manned k x was = subst (λ m. k < m) l.callbacks.sizes.manned (slice_get_within w.workers k x was)
 
     -- nothing is missing
     nothing_lacks : Lack plans w → ⊥
     nothing_lacks (NoNext r v o was from none) = object_there o (within w.objects o ((reader_there plans layout slots laws w now l.kept r v was).mine.holds o from).2) none
     nothing_lacks (NoEntry r v copied e was has memb full) = let same : Ok (fresh w.layout (copied == 1)) ≡ Err e = sym (cond-true (count_of w.layout v.word == 0) _ _ (closed r v copied was has memb)) ∙ full in cc
-    nothing_lacks (NoQueue u none) = let some = l.callbacks.some in queue_there (queue_of w u) (mod_below u (length w.queues) (omega (arith, some))) none
+    nothing_lacks (NoQueue u none) = let some = l.callbacks.sizes.some in queue_there (queue_of w u) (mod_below u (length w.queues) (omega (arith, some))) none
     nothing_lacks (NoPushed u x new at none) = object_there new (place_now u x (publishing.Push new) at).0.1 none
     nothing_lacks (NoReplaced u x old new at none) = object_there old (within w.objects old (λ f. let linked = (place_now u x (publishing.Replace old new) at).2 in let e : Linked ≡ Fresh = sym linked ∙ f in cc)) none
     nothing_lacks (NoBatch k x was none) = queue_there k (manned k x was) none
@@ -96,23 +96,23 @@ module _ {P : Type 0} (plans : Plans P) (layout : Layout) (slots : ℕ) (laws : 
     abbrev PromptTurn : SyncCore P → GraceStep P → Type 0
     PromptTurn sync step = is_blocked step.answer ≡ false → is_waiting step.answer ≡ false → IsPrompt step.answer
 
+    prompt_row : (me : Holder) (ask : ℕ) (sync : SyncCore P) (step : GraceStep P) → TurnRow plans w me ask sync (Ok step) → PromptTurn sync step
+    prompt_row me ask _ _ (Blocking c other held) free on = absurd (true≢false free)
+    prompt_row me ask _ _ (Standing from c p grace held asks) free on = absurd (true≢false on)
+    prompt_row me ask _ _ _ free on = tt
+
     prompt_turn : (me : Holder) (ask : ℕ) (sync : SyncCore P) (step : GraceStep P) → grace_row plans w me ask sync ≡ Ok step → PromptTurn sync step
-    prompt_turn me ask = turn_of plans w me ask PromptTurn (record {
-      asks = λ c is free on. tt;
-      blocks = λ c other held free on. absurd (true≢false free);
-      locks = λ c unheld free on. tt;
-      finds = λ c up free on. tt;
-      needs = λ c low free on. tt;
-      stands = λ from c p grace held asks free on. absurd (true≢false on);
-      ends = λ from grace held asks free on. tt;
-      goes = λ from c p grace held asks free on. tt;
-      frees = λ free on. tt;
-      rests = λ free on. tt;
-    })
+    prompt_turn me ask sync step is = prompt_row me ask sync step (turn_of plans w me ask sync step is)
 
     prompt_retire : (u : ℕ) (x : UpdaterState P) (o : ObjectId) (step : RetireStep) → IsPrompt (answer_of (retire_on w u x o step))
     prompt_retire u x o due.Mark = tt
     prompt_retire u x o _ = tt
+
+    prompt_updates : (u : ℕ) (x : UpdaterState P) → UpdaterRows plans w u x (λ v change. Passes [] → IsPrompt (answer_of change))
+    prompt_updates u x _ _ (BySync step at is goes on) p = prompt_turn (holder.Updater u) (w.grace.asks + 1) new_core step is goes on
+    prompt_updates u x _ _ (ByTurn ask sync step at is goes on) p = prompt_turn (holder.Updater u) ask sync step is goes on
+    prompt_updates u x _ _ (ByRetire o step at) p = prompt_retire u x o step
+    prompt_updates u x _ _ _ p = tt
 
     -- a row whose tests pass is made
     makes : Sweep plans w (λ line row. Passes row.tests → Makes row.effect)
@@ -120,24 +120,8 @@ module _ {P : Type 0} (plans : Plans P) (layout : Layout) (slots : ℕ) (laws : 
       stops = λ line fails e row h go p. go p.0 p.1;
       stalls = λ line fails answer row never none go p. go p.0 p.1;
       lacks = λ line e h lack p. absurd (nothing_lacks lack);
-      reads = λ r v verb was. reads_by plans.qsbr w.layout w r v (λ step. IsPrompt step.answer) (λ step. Unit {0} → IsPrompt step.answer) (λ step is p. is) (prompt_reads plans.qsbr w.layout w r v);
-      updates = λ u x was. record {
-        pushes = λ c head at is mine p. tt;
-        replaces = λ o y at is p. tt;
-        cuts = λ o y at is p. tt;
-        pushed = λ new y at is p. tt;
-        replaced = λ old new y at is p. tt;
-        asks = λ step at is goes on p. prompt_turn (holder.Updater u) (w.grace.asks + 1) new_core step is goes on;
-        turns = λ ask sync step at is goes on p. prompt_turn (holder.Updater u) ask sync step is goes on;
-        starts = λ cookie at is p. tt;
-        polls = λ s at is up p. tt;
-        holds = λ o q at may is free p. tt;
-        retires = λ o step at p. prompt_retire u x o step;
-        bars = λ at p. tt;
-        notes = λ b q at is p. tt;
-        checks = λ b q at is up more p. tt;
-        clears = λ b q at is up last p. tt;
-      };
+      reads = λ r v verb was step row p. prompt_reads plans.qsbr w.layout w r v step row;
+      updates = λ u x was. prompt_updates u x;
       works = λ k x was. record {
         takes = λ q at is free some p. tt;
         works = λ sync tickets step at is goes on p. prompt_turn (holder.Worker k) (ask_for w x.ask sync) sync step is goes on;
@@ -153,17 +137,14 @@ module _ {P : Type 0} (plans : Plans P) (layout : Layout) (slots : ℕ) (laws : 
       turn_is p shows laid word =
           scans.exact p word
           ∙ ap (λ n. turn_at plans.qsbr (scans.layout_of p) n (plans.action p) word) shows
-          ∙ same_turns plans.qsbr (scans.layout_of p) w.layout w.grace.word word (plans.action p) (λ memb. laid memb ∙ sym l.kept.laid)
+          ∙ same_turns plans.qsbr (scans.layout_of p) w.layout w.grace.word word (plans.action p) (λ memb. laid memb ∙ sym l.kept.shape.laid)
 
       layout_after : (p : P) (loads : List ℕ) → scans.layout_of (after_loads plans.taken p loads) ≡ scans.layout_of p
       layout_after p [] = refl
       layout_after p (load ∷ loads) = layout_after (plans.taken p load) loads ∙ scans.keeps_layout p load
 
       begun_now : laws.begun w.grace.seq w.grace.word (plan_now plans w)
-      begun_now = subst (laws.begun w.grace.seq w.grace.word) made (laws.all.made w.grace.seq w.grace.word)
-        where
-          made : plans.made layout slots w.grace.seq w.grace.word ≡ plan_now plans w
-          made = ap (λ (k : Layout). plans.made k slots w.grace.seq w.grace.word) (sym l.kept.laid) ∙ ap (λ (n : ℕ). plans.made w.layout n w.grace.seq w.grace.word) (sym l.kept.sized)
+      begun_now = subst (laws.begun w.grace.seq w.grace.word) (ap (λ (k : Layout). plans.made k slots w.grace.seq w.grace.word) (sym l.kept.shape.laid) ∙ ap (λ (n : ℕ). plans.made w.layout n w.grace.seq w.grace.word) (sym l.kept.shape.sized)) (laws.all.made w.grace.seq w.grace.word)
 
       exact_lock : (me : Holder) (ask c : ℕ) (held : Option Holder) → done_with plans w ask (core.Waits c) (lock_effect w me held) ≡ done_with (exact plans w) w ask (core.Waits c) (lock_effect w me held)
       exact_lock me ask c None = refl

@@ -18,7 +18,7 @@ use Rattle.world.proofs.Given.{range_more, counts_up, Grows, none_more, given_mo
 use Rattle.world.proofs.GraceRows.{AsksNone, Fits, fits_step, tells}
 use Rattle.world.proofs.Logged.{get_replicate, Logged, always}
 use Rattle.world.proofs.Opening.{Opens, opens}
-use Rattle.world.proofs.Rows.{WasAt, Law, reads_by}
+use Rattle.world.proofs.Rows.{ByPush, ByReplace, ByCut, ByPushed, ByReplaced, BySync, ByTurn, ByStart, ByPoll, ByHold, ByRetire, ByBarrier, ByNote, ByCheck, ByClear, UpdaterRows, WasAt, Law}
 use Rattle.world.proofs.State.{told_by, log_after, UpdaterKept}
 
 -- the updater's new object, or that none is in its hands
@@ -27,13 +27,8 @@ module _ {P : Type 0} where
   none_made plans ask sync = by (step_of plans.action sync)
     where
       by : (step : SyncStep) → made_at (place_at ask sync step) ≡ None
-      by due.Ask = refl
-      by due.TakeLock = refl
-      by due.Check = refl
-      by due.Begin = refl
-      by (due.Plan action) = refl
-      by due.FreeLock = refl
       by due.Nothing = refl
+      by _ = refl
 
   abbrev made : BoardView P → List ℕ
   made w = filter_map made_by w.updaters
@@ -197,27 +192,28 @@ module _ {P : Type 0} (plans : Plans P) (layout : Layout) (slots : ℕ) (laws : 
       by s (inl e) = subst (λ t. Grows (ordinal_of t) (told step.answer) (reader_at w.readers t).ordinal (reader_at (slice_set w.readers r step.state) t).ordinal) (sym e) here
       by s (inr n) = inl (none s n, ap (λ (y : ReaderState). y.ordinal) (get_or-set_other w.readers r s step.state new_reader n))
 
+  moves_updates : (u : ℕ) (x : UpdaterState P) → UpdaterRows plans w u x (λ v. MovesBy w)
+  moves_updates u x _ _ (ByPush c head at is mine) = unnumbered w _ _ refl refl refl refl (λ r. refl) (λ r. refl) (inr (inl (refl, length-append w.objects _, made_more w.updaters u x _ at.was (length w.objects) (ap made_at at.at) refl)))
+  moves_updates u x _ _ (ByReplace o y at is) = unnumbered w _ _ refl refl refl refl (λ r. refl) (λ r. refl) (inr (inl (refl, length-append w.objects _, made_more w.updaters u x _ at.was (length w.objects) (ap made_at at.at) refl)))
+  moves_updates u x _ _ (ByCut o y at is) = unnumbered w _ _ refl refl refl refl (λ r. refl) (λ r. refl) (inl (refl, spliced_length w.objects (record { chain = y.chain; before = y.before; after = y.link; leaves = Some o; enters = None }), made_same w.updaters u x x at.was refl))
+  moves_updates u x _ _ (ByPushed new y at is) = unnumbered w _ _ refl refl refl refl (λ r. refl) (λ r. refl) (inr (inr (new.0, refl, spliced_length w.objects (record { chain = y.chain; before = None; after = y.link; leaves = None; enters = Some new }), made_less w.updaters u x _ at.was new.0 (ap made_at at.at) refl)))
+  moves_updates u x _ _ (ByReplaced old new y at is) = unnumbered w _ _ refl refl refl refl (λ r. refl) (λ r. refl) (inr (inr (new.0, refl, spliced_length w.objects (record { chain = y.chain; before = y.before; after = y.link; leaves = Some old; enters = Some new }), made_less w.updaters u x _ at.was new.0 (ap made_at at.at) refl)))
+  moves_updates u x _ _ (BySync step at is goes on) = moves_sync u x (w.grace.asks + 1) new_core step at.was (ap made_at at.at) (λ e. refl) is
+  moves_updates u x _ _ (ByTurn ask sync step at is goes on) = moves_sync u x ask sync step at.was (ap made_at at.at) (next_ask u x ask sync at) is
+  moves_updates u x _ _ (ByStart cookie at is) = record { asks = inr (refl, refl); barriers = inl (refl, refl); sections = λ r. inl (refl, refl); objects = inl (refl, refl, made_same w.updaters u x _ at.was refl) }
+  moves_updates u x _ _ (ByPoll s at is up) = unnumbered w _ _ refl refl refl refl (λ r. refl) (λ r. refl) (inl (refl, refl, made_same w.updaters u x _ at.was refl))
+  moves_updates u x _ _ (ByHold o q at may is free) = unnumbered w _ _ refl refl refl refl (λ r. refl) (λ r. refl) (inl (refl, refl, made_same w.updaters u x _ at.was (sym (ap made_at at.at))))
+  moves_updates u x _ _ (ByRetire o step at) = moves_retire u x o step at
+  moves_updates u x _ _ (ByBarrier at) = record { asks = inl (refl, refl); barriers = inr (refl, refl); sections = λ r. inl (refl, refl); objects = inl (refl, refl, made_same w.updaters u x _ at.was (sym (ap made_at at.at))) }
+  moves_updates u x _ _ (ByNote b q at is) = unnumbered w _ _ refl refl refl refl (λ r. refl) (λ r. refl) (inl (refl, refl, made_same w.updaters u x _ at.was (sym (ap made_at at.at))))
+  moves_updates u x _ _ (ByCheck b q at is up more) = unnumbered w _ _ refl refl refl refl (λ r. refl) (λ r. refl) (inl (refl, refl, made_same w.updaters u x _ at.was (sym (ap made_at at.at))))
+  moves_updates u x _ _ (ByClear b q at is up last) = unnumbered w _ _ refl refl refl refl (λ r. refl) (λ r. refl) (inl (refl, refl, made_same w.updaters u x _ at.was (sym (ap made_at at.at))))
+
   moves_law : Law plans w (λ line. MovesBy w)
   moves_law = record {
     stays = λ line answer never none. unnumbered w _ _ refl refl refl refl (λ r. refl) (λ r. refl) (inl (refl, refl, refl));
-    reads = λ r v verb was. reads_by plans.qsbr w.layout w r v (Opens r v) (λ step. MovesBy w (Read r step)) (λ step. moves_read r v step was) (opens plans.qsbr w.layout w r v);
-    updates = λ u x was. record {
-      pushes = λ c head at is mine. unnumbered w _ _ refl refl refl refl (λ r. refl) (λ r. refl) (inr (inl (refl, length-append w.objects _, made_more w.updaters u x _ at.was (length w.objects) (ap made_at at.at) refl)));
-      replaces = λ o y at is. unnumbered w _ _ refl refl refl refl (λ r. refl) (λ r. refl) (inr (inl (refl, length-append w.objects _, made_more w.updaters u x _ at.was (length w.objects) (ap made_at at.at) refl)));
-      cuts = λ o y at is. unnumbered w _ _ refl refl refl refl (λ r. refl) (λ r. refl) (inl (refl, spliced_length w.objects (record { chain = y.chain; before = y.before; after = y.link; leaves = Some o; enters = None }), made_same w.updaters u x x at.was refl));
-      pushed = λ new y at is. unnumbered w _ _ refl refl refl refl (λ r. refl) (λ r. refl) (inr (inr (new.0, refl, spliced_length w.objects (record { chain = y.chain; before = None; after = y.link; leaves = None; enters = Some new }), made_less w.updaters u x _ at.was new.0 (ap made_at at.at) refl)));
-      replaced = λ old new y at is. unnumbered w _ _ refl refl refl refl (λ r. refl) (λ r. refl) (inr (inr (new.0, refl, spliced_length w.objects (record { chain = y.chain; before = y.before; after = y.link; leaves = Some old; enters = Some new }), made_less w.updaters u x _ at.was new.0 (ap made_at at.at) refl)));
-      asks = λ step at is goes on. moves_sync u x (w.grace.asks + 1) new_core step at.was (ap made_at at.at) (λ e. refl) is;
-      turns = λ ask sync step at is goes on. moves_sync u x ask sync step at.was (ap made_at at.at) (next_ask u x ask sync at) is;
-      starts = λ cookie at is. record { asks = inr (refl, refl); barriers = inl (refl, refl); sections = λ r. inl (refl, refl); objects = inl (refl, refl, made_same w.updaters u x _ at.was refl) };
-      polls = λ s at is up. unnumbered w _ _ refl refl refl refl (λ r. refl) (λ r. refl) (inl (refl, refl, made_same w.updaters u x _ at.was refl));
-      holds = λ o q at may is free. unnumbered w _ _ refl refl refl refl (λ r. refl) (λ r. refl) (inl (refl, refl, made_same w.updaters u x _ at.was (sym (ap made_at at.at))));
-      retires = moves_retire u x;
-      bars = λ at. record { asks = inl (refl, refl); barriers = inr (refl, refl); sections = λ r. inl (refl, refl); objects = inl (refl, refl, made_same w.updaters u x _ at.was (sym (ap made_at at.at))) };
-      notes = λ b q at is. unnumbered w _ _ refl refl refl refl (λ r. refl) (λ r. refl) (inl (refl, refl, made_same w.updaters u x _ at.was (sym (ap made_at at.at))));
-      checks = λ b q at is up more. unnumbered w _ _ refl refl refl refl (λ r. refl) (λ r. refl) (inl (refl, refl, made_same w.updaters u x _ at.was (sym (ap made_at at.at))));
-      clears = λ b q at is up last. unnumbered w _ _ refl refl refl refl (λ r. refl) (λ r. refl) (inl (refl, refl, made_same w.updaters u x _ at.was (sym (ap made_at at.at))));
-    };
+    reads = λ r v verb was step row. moves_read r v step was (opens plans.qsbr w.layout w r v step row);
+    updates = λ u x was. moves_updates u x;
     works = λ k x was. record {
       takes = λ q at is free some. unnumbered w _ _ refl refl refl refl (λ r. refl) (λ r. refl) (inl (refl, refl, refl));
       works = λ sync tickets step at is goes on. moves_work k x sync _ _ step is;

@@ -1,11 +1,11 @@
 -- What the steps of updaters that publish, replace and cut keep, and that what they tell may come.
-use Rattle.world.proofs.Cited.{◌≡◌, ◌≢◌, ◌⊎◌, ⊎_elim, ℕ, true≢false, inl, inr, ◌<◌, ◌%◌, ◌&&◌, cond, Bool, true, false, List, [], ◌∷◌, ◌++◌, length, slice_get, slice_set, Option, Some, None, Ok, refl, sym, ap, ◌∙◌, subst, arith, get_or-set_other, get_or-set_same, length-set, eqb-true, and_parts, none-some, same_Some, slice_get_within, get_or_from_slice_get, Event, Push, Replace, Cut, ObjectId, without_object, first_of, next_of, replaced, at_object, State, IsAllowed, after, In, in_objects, has_object_in, at_number_same, at_number_other, at_object_same, at_object_other, follows, some_is, none_some, ChainKept, Spliced, push_splices, cut_splices, replace_splices, Layout, Stage, Fresh, Linked, ObjectState, Splice, Publishing, UpdaterState, UpdaterPlace, Idle, Publishes, Syncs, Change, Begin, Publish, fresh_object, is_linked, spliced_heads, spliced_objects, Plans, BoardView, idle, changed, no_object, object_at, head_of, link_of, before_of, stage_of, chain_of, grown_same, word_of, LinksKept, FreshIn, PlaceKept, decide_number, Fits, Follows, monotone, links_spliced, place_spliced, new_object, new_within, stage_grown, links_grown, place_grown, reader_at, readers_over}
+use Rattle.world.proofs.Cited.{◌≡◌, ◌≢◌, ◌⊎◌, at_number, ⊎_elim, ℕ, true≢false, inl, inr, ◌<◌, ◌%◌, ◌&&◌, cond, Bool, true, false, List, [], ◌∷◌, ◌++◌, length, slice_get, slice_set, Option, Some, None, Ok, refl, sym, ap, ◌∙◌, subst, arith, length-set, eqb-true, and_parts, none-some, same_Some, slice_get_within, get_or_from_slice_get, Event, Push, Replace, Cut, ObjectId, without_object, next_of, replaced, at_object, State, IsAllowed, after, In, in_objects, has_object_in, at_number_same, at_number_other, at_object_same, at_object_other, follows, some_is, none_some, ChainKept, Spliced, push_splices, cut_splices, replace_splices, Layout, Stage, Fresh, Linked, ObjectState, Splice, Publishing, UpdaterState, UpdaterPlace, Idle, Publishes, Syncs, Change, Begin, Publish, fresh_object, is_linked, spliced_heads, spliced_objects, Plans, BoardView, idle, changed, no_object, object_at, head_of, link_of, before_of, stage_of, chain_of, grown_same, word_of, LinksKept, FreshIn, PlaceKept, Fits, Follows, monotone, links_spliced, place_spliced, new_object, new_within, stage_grown, links_grown, place_grown, reader_at, readers_over}
 use Rattle.world_state.specs.declared.object.Stage.TheVariants.{Cut as IsCut}
 use Rattle.world_state.specs.declared.updater.Publishing.TheVariants as publishing
 use Rattle.world.specs.Chains.{writes, next_object, linked_by}
 use Rattle.world.proofs.Fence.{Work, Rests, Laws, Sets}
 use Rattle.world.proofs.Periods.{Part}
-use Rattle.world.proofs.State.{Asker, Syncing, decide_asker, place_work, updater_at, work_of, holder_of, word_at, UpdaterKept, Kept, Owes, work_set}
+use Rattle.world.proofs.State.{Asker, Syncing, decide_asker, place_work, updater_at, work_of, holder_of, word_at, UpdaterKept, Kept, Owes, work_set, at_updaters}
 use Rattle.world.proofs.KeptReaders.{log_longer}
 
 module _ {P : Type 0} (plans : Plans P) (layout : Layout) (slots : ℕ) (laws : Laws plans layout slots) (w : BoardView P) (now : State) (k : Kept plans layout slots laws w now) where
@@ -54,15 +54,8 @@ module _ {P : Type 0} (plans : Plans P) (layout : Layout) (slots : ℕ) (laws : 
   pub places_set : (heads' : List (Option ObjectId)) (os' : List ObjectState) (u : ℕ) (x' : UpdaterState P) → u < count → UpdaterKept heads' os' count u x'.place →
       ((v : ℕ) (p : UpdaterPlace P) → v ≢ u → UpdaterKept w.heads w.objects count v p → UpdaterKept heads' os' count v p) →
       (v : ℕ) → UpdaterKept heads' os' (length (slice_set w.updaters u x')) v (updater_at (slice_set w.updaters u x') v).place
-  places_set heads' os' u x' inside mine others v = subst (λ n. UpdaterKept heads' os' n v (updater_at (slice_set w.updaters u x') v).place) (sym (length-set w.updaters u x')) (by (decide_number v u))
-    where
-      by : (v ≡ u) ⊎ (v ≢ u) → UpdaterKept heads' os' count v (updater_at (slice_set w.updaters u x') v).place
-      by (inl e) =
-          subst (λ n. UpdaterKept heads' os' count n (updater_at (slice_set w.updaters u x') n).place) (sym e)
-          (subst (λ (y : UpdaterState P). UpdaterKept heads' os' count u y.place) (sym (get_or-set_same w.updaters u x' idle inside)) mine)
-      by (inr apart) =
-          subst (λ (y : UpdaterState P). UpdaterKept heads' os' count v y.place) (sym (get_or-set_other w.updaters u v x' idle apart))
-          (others v (updater_at w.updaters v).place apart (k.places_kept v))
+  places_set heads' os' u x' inside mine others v = subst (λ n. UpdaterKept heads' os' n v (updater_at (slice_set w.updaters u x') v).place) (sym (length-set w.updaters u x'))
+      (at_updaters (λ v y. UpdaterKept heads' os' count v y.place) w.updaters u x' inside mine (λ v apart. others v (updater_at w.updaters v).place apart (k.places_kept v)) v)
 
   -- the same over places that publish nothing
   pub over_places : (heads' : List (Option ObjectId)) (os' : List ObjectState) (v : ℕ) → ((p : Publishing) → PlaceKept w.heads w.objects count v p → PlaceKept heads' os' count v p) →
@@ -77,9 +70,7 @@ module _ {P : Type 0} (plans : Plans P) (layout : Layout) (slots : ℕ) (laws : 
   owes_begin u x x' y t polls was is new mine = (
     tt,
     record {
-      laid = k.laid;
-      sized = k.sized;
-      some_slot = k.some_slot;
+      shape = k.shape;
       links_kept = links_grown w.objects y new w.heads now.chain now.used now.cut now.successor links;
       places_kept = places_set w.heads (w.objects ++ y ∷ []) u x' t.inside mine (λ v p _ h. over_places w.heads (w.objects ++ y ∷ []) v (λ q. place_grown w.objects y new w.heads count v q) p h);
       readers_kept = readers_over plans.qsbr layout w.readers w.grace.word w.grace.word w.objects (w.objects ++ y ∷ []) now.sections now.seen now.held (λ _. omega arith) (λ o known e. known (sym (stage_grown w.objects y new o) ∙ e)) k.readers_kept;
@@ -172,9 +163,7 @@ module _ {P : Type 0} (plans : Plans P) (layout : Layout) (slots : ℕ) (laws : 
     (allowed, tt),
     subst (Kept plans layout slots laws (changed w (Publish u x' s e))) (sym same)
         (record {
-          laid = k.laid;
-          sized = k.sized;
-          some_slot = k.some_slot;
+          shape = k.shape;
           links_kept = links_spliced w.heads w.objects now.chain now.used now.cut now.successor s ys links fits chain' used' cut' successor' follows;
           places_kept = places_set (spliced_heads w.heads s) (spliced_objects w.objects s) u x' t.inside
               (subst (UpdaterKept (spliced_heads w.heads s) (spliced_objects w.objects s) count u) (sym is) tt)
@@ -189,55 +178,52 @@ module _ {P : Type 0} (plans : Plans P) (layout : Layout) (slots : ℕ) (laws : 
         }),
   )
 
-  linked_fresh : Linked ≡ Fresh → ⊥
-  linked_fresh e = cc
+  -- what leaves a chain is linked in it
+  module _ (o : ObjectId) (linked : stage_of w.objects o ≡ Linked) where
+    abbrev c : ℕ
+    c = chain_of w.objects o
+
+    abbrev xs : List ObjectId
+    xs = now.chain c
+
+    abbrev s : Option ObjectId → Splice
+    s enters = record { chain = c; before = before_of w.objects o; after = link_of w.objects o; leaves = Some o; enters = enters }
+
+    h : In xs o
+    h = links.links o linked
+
+    link : link_of w.objects o ≡ next_of xs o
+    link = (links.chains c).words (Some o) h
+
+    -- whether another enters in its place or none
+    leaves_kept : (u : ℕ) (x x' : UpdaterState P) (enters : Option ObjectId) (e : Event) (ys used' : List ObjectId) → There u x → x'.started ≡ x.started → place_work x.place ≡ Rests → x'.place ≡ Idle → c % count ≡ u →
+        Spliced xs ys (before_of w.objects o) (next_of xs o) (Some o) enters → ((m : ObjectId) → enters ≡ Some m → FreshIn w.objects m × (chain_of w.objects m ≡ c) × (link_of w.objects m ≡ link_of w.objects o)) →
+        ((p : ObjectId) → In used' p → (enters ≡ Some p) ⊎ In now.used p) → IsAllowed now e → after now e ≡ record now { chain = at_number c ys now.chain; used = used'; cut = o ∷ now.cut; successor = at_object o (next_of xs o) now.successor } →
+        Owes plans layout slots laws w now (Ok (Publish u x' (s enters) e))
+    leaves_kept u x x' enters e ys used' t polls was is home spliced fresh used allowed same = owes_publish u x x' (s enters) e ys t polls was is home
+        (record { spliced = subst (λ (n : Option ObjectId). Spliced xs ys (before_of w.objects o) n (Some o) enters) (sym link) spliced; in_chains = (links.linked c o h).2; fresh = fresh })
+        allowed _ _ _ _
+        (record {
+          chain_is = at_number_same c ys now.chain;
+          chain_else = λ d apart. at_number_other c d ys now.chain apart;
+          used_is = used;
+          cut_is = λ p h. ⊎_elim (λ (e : o ≡ p). inl (ap Some e)) (λ (g : In now.cut p). inr g) h;
+          cut_on = λ p h. inr h;
+          cut_new = λ p e. let same = some_is o p e in (inl same, subst (λ (q : ObjectId). at_object o (next_of xs o) now.successor q ≡ link_of w.objects o) same (at_object_same o (next_of xs o) now.successor ∙ sym link));
+          successor_else = λ p apart. at_object_other o p (next_of xs o) now.successor (λ e. apart (ap Some (sym e)));
+        })
+        same
 
   pub owes_cut : (u : ℕ) (x : UpdaterState P) (o : ObjectId) (z : ObjectState) → There u x → x.place ≡ Idle → linked_by w u (slice_get w.objects o.0) ≡ Some z →
       Owes plans layout slots laws w now (Ok (Publish u x (record { chain = z.chain; before = z.before; after = z.link; leaves = Some o; enters = None }) (Cut z.chain o)))
-  owes_cut u x o z t was e = subst (λ (y : ObjectState). Owes plans layout slots laws w now (Ok (change y))) g.is done
-    where
-      g : MayGo u o z
-      g = may_go u o (slice_get w.objects o.0) refl z e
-
-      change : ObjectState → Change P
-      change y = Publish u x (record { chain = y.chain; before = y.before; after = y.link; leaves = Some o; enters = None }) (Cut y.chain o)
-
-      c : ℕ
-      c = chain_of w.objects o
-
-      xs : List ObjectId
-      xs = now.chain c
-
-      ck : ChainKept xs (word_of w.heads w.objects c) (before_of w.objects)
-      ck = links.chains c
-
-      h : In xs o
-      h = links.links o g.linked
-
-      link : link_of w.objects o ≡ next_of xs o
-      link = ck.words (Some o) h
-
-      s : Splice
-      s = record { chain = c; before = before_of w.objects o; after = link_of w.objects o; leaves = Some o; enters = None }
-
-      done : Owes plans layout slots laws w now (Ok (Publish u x s (Cut c o)))
-      done = owes_publish u x x s (Cut c o) (without_object o xs) t refl (ap place_work was) was g.home
-          (record {
-            spliced = subst (λ (n : Option ObjectId). Spliced xs (without_object o xs) (before_of w.objects o) n (Some o) None) (sym link) (cut_splices xs o (before_of w.objects o) ck.once h (ck.befores o h).0 (ck.befores o h).1);
-            in_chains = (links.linked c o h).2;
-            fresh = λ m e. absurd (none_some m e);
-          })
-          (has_object_in xs o h) _ _ _ _
-          (record {
-            chain_is = at_number_same c (without_object o xs) now.chain;
-            chain_else = λ d apart. at_number_other c d (without_object o xs) now.chain apart;
-            used_is = λ p h. inr h;
-            cut_is = λ p h. ⊎_elim (λ (e : o ≡ p). inl (ap Some e)) (λ (g : In now.cut p). inr g) h;
-            cut_on = λ p h. inr h;
-            cut_new = λ p e. let same = some_is o p e in (inl same, subst (λ (q : ObjectId). at_object o (next_of xs o) now.successor q ≡ link_of w.objects o) same (at_object_same o (next_of xs o) now.successor ∙ sym link));
-            successor_else = λ p apart. at_object_other o p (next_of xs o) now.successor (λ e. apart (ap Some (sym e)));
-          })
-          refl
+  owes_cut u x o z t was e =
+      let g = may_go u o (slice_get w.objects o.0) refl z e in
+      let xs = now.chain (chain_of w.objects o) in
+      let ck = links.chains (chain_of w.objects o) in
+      let h : In xs o = links.links o g.linked in
+      subst (λ (y : ObjectState). Owes plans layout slots laws w now (Ok (Publish u x (record { chain = y.chain; before = y.before; after = y.link; leaves = Some o; enters = None }) (Cut y.chain o)))) g.is
+      (leaves_kept o g.linked u x x None (Cut (chain_of w.objects o) o) (without_object o xs) now.used t refl (ap place_work was) was g.home
+      (cut_splices xs o (before_of w.objects o) ck.once h (ck.befores o h).0 (ck.befores o h).1) (λ m e. absurd (none_some m e)) (λ p h. inr h) (has_object_in xs o h) refl)
 
   -- the second step of `push`
   pub owes_pushed : (u : ℕ) (x : UpdaterState P) (m : ObjectId) (z : ObjectState) → There u x → place_work x.place ≡ Rests → PlaceKept w.heads w.objects count u (publishing.Push m) → slice_get w.objects m.0 ≡ Some z →
@@ -259,11 +245,8 @@ module _ {P : Type 0} (plans : Plans P) (layout : Layout) (slots : ℕ) (laws : 
       ck : ChainKept xs (word_of w.heads w.objects c) (before_of w.objects)
       ck = links.chains c
 
-      link : link_of w.objects m ≡ first_of xs
-      link = mine.3 ∙ ck.words None tt
-
       new : ¬ In xs m
-      new h = linked_fresh (sym (links.linked c m h).0 ∙ mine.0.0)
+      new h = cc (sym (links.linked c m h).0 ∙ mine.0.0)
 
       s : Splice
       s = record { chain = c; before = None; after = link_of w.objects m; leaves = None; enters = Some m }
@@ -271,7 +254,7 @@ module _ {P : Type 0} (plans : Plans P) (layout : Layout) (slots : ℕ) (laws : 
       done : Owes plans layout slots laws w now (Ok (Publish u x' s (Push c m)))
       done = owes_publish u x x' s (Push c m) (m ∷ xs) t refl was refl mine.1
           (record {
-            spliced = subst (λ (n : Option ObjectId). Spliced xs (m ∷ xs) None n None (Some m)) (sym link) (push_splices xs m ck.once new);
+            spliced = subst (λ (n : Option ObjectId). Spliced xs (m ∷ xs) None n None (Some m)) (sym (mine.3 ∙ ck.words None tt)) (push_splices xs m ck.once new);
             in_chains = mine.2;
             fresh = λ o e. subst (λ (q : ObjectId). FreshIn w.objects q × (chain_of w.objects q ≡ c) × (link_of w.objects q ≡ link_of w.objects m)) (some_is m o e) (mine.0, refl, refl);
           })
@@ -290,50 +273,13 @@ module _ {P : Type 0} (plans : Plans P) (layout : Layout) (slots : ℕ) (laws : 
   -- the second step of `replace`
   pub owes_replaced : (u : ℕ) (x : UpdaterState P) (o m : ObjectId) (z : ObjectState) → There u x → place_work x.place ≡ Rests → PlaceKept w.heads w.objects count u (publishing.Replace o m) → slice_get w.objects o.0 ≡ Some z →
       Owes plans layout slots laws w now (Ok (Publish u (record x { place = Idle }) (record { chain = z.chain; before = z.before; after = z.link; leaves = Some o; enters = Some m }) (Replace z.chain o m)))
-  owes_replaced u x o m z t was mine at_o = subst (λ (y : ObjectState). Owes plans layout slots laws w now (Ok (change y))) (get_or_from_slice_get w.objects o.0 z no_object at_o) done
-    where
-      x' : UpdaterState P
-      x' = record x { place = Idle }
-
-      change : ObjectState → Change P
-      change y = Publish u x' (record { chain = y.chain; before = y.before; after = y.link; leaves = Some o; enters = Some m }) (Replace y.chain o m)
-
-      c : ℕ
-      c = chain_of w.objects o
-
-      xs : List ObjectId
-      xs = now.chain c
-
-      ck : ChainKept xs (word_of w.heads w.objects c) (before_of w.objects)
-      ck = links.chains c
-
-      h : In xs o
-      h = links.links o mine.2
-
-      link : link_of w.objects o ≡ next_of xs o
-      link = ck.words (Some o) h
-
-      new : ¬ In xs m
-      new g = linked_fresh (sym (links.linked c m g).0 ∙ mine.0.0)
-
-      s : Splice
-      s = record { chain = c; before = before_of w.objects o; after = link_of w.objects o; leaves = Some o; enters = Some m }
-
-      done : Owes plans layout slots laws w now (Ok (Publish u x' s (Replace c o m)))
-      done = owes_publish u x x' s (Replace c o m) (replaced o m xs) t refl was refl (ap (λ d. d % count) mine.3 ∙ mine.1)
-          (record {
-            spliced = subst (λ (n : Option ObjectId). Spliced xs (replaced o m xs) (before_of w.objects o) n (Some o) (Some m)) (sym link) (replace_splices xs o m (before_of w.objects o) ck.once new h (ck.befores o h).0 (ck.befores o h).1);
-            in_chains = (links.linked c o h).2;
-            fresh = λ p e. subst (λ (q : ObjectId). FreshIn w.objects q × (chain_of w.objects q ≡ c) × (link_of w.objects q ≡ link_of w.objects o)) (some_is m p e) (mine.0, sym mine.3, mine.4);
-          })
-          (has_object_in xs o h, λ g. links.used_known m (in_objects now.used m g) mine.0.0) _ _ _ _
-          (record {
-            chain_is = at_number_same c (replaced o m xs) now.chain;
-            chain_else = λ d apart. at_number_other c d (replaced o m xs) now.chain apart;
-            used_is = λ p h. ⊎_elim (λ (e : m ≡ p). inl (ap Some e)) (λ (g : In now.used p). inr g) h;
-            cut_is = λ p h. ⊎_elim (λ (e : o ≡ p). inl (ap Some e)) (λ (g : In now.cut p). inr g) h;
-            cut_on = λ p h. inr h;
-            cut_new = λ p e. let same = some_is o p e in (inl same, subst (λ (q : ObjectId). at_object o (next_of xs o) now.successor q ≡ link_of w.objects o) same (at_object_same o (next_of xs o) now.successor ∙ sym link));
-            successor_else = λ p apart. at_object_other o p (next_of xs o) now.successor (λ e. apart (ap Some (sym e)));
-          })
-          refl
+  owes_replaced u x o m z t was mine at_o =
+      let xs = now.chain (chain_of w.objects o) in
+      let ck = links.chains (chain_of w.objects o) in
+      let h : In xs o = links.links o mine.2 in
+      let new : ¬ In xs m = λ g. cc (sym (links.linked (chain_of w.objects o) m g).0 ∙ mine.0.0) in
+      subst (λ (y : ObjectState). Owes plans layout slots laws w now (Ok (Publish u (record x { place = Idle }) (record { chain = y.chain; before = y.before; after = y.link; leaves = Some o; enters = Some m }) (Replace y.chain o m)))) (get_or_from_slice_get w.objects o.0 z no_object at_o)
+      (leaves_kept o mine.2 u x (record x { place = Idle }) (Some m) (Replace (chain_of w.objects o) o m) (replaced o m xs) (m ∷ now.used) t refl was refl (ap (λ d. d % count) mine.3 ∙ mine.1)
+      (replace_splices xs o m (before_of w.objects o) ck.once new h (ck.befores o h).0 (ck.befores o h).1)
+      (λ p e. subst (λ (q : ObjectId). FreshIn w.objects q × (chain_of w.objects q ≡ chain_of w.objects o) × (link_of w.objects q ≡ link_of w.objects o)) (some_is m p e) (mine.0, sym mine.3, mine.4))
+      (λ p h. ⊎_elim (λ (e : m ≡ p). inl (ap Some e)) (λ (g : In now.used p). inr g) h) (has_object_in xs o h, λ g. links.used_known m (in_objects now.used m g) mine.0.0) refl)

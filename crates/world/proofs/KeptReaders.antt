@@ -3,7 +3,7 @@ use Rattle.world.proofs.Cited.{◌≡◌, ◌≢◌, ◌⊎◌, inl, inr, ⊎_el
 use Rattle.world_state.specs.declared.object.Stage.TheVariants.{Cut as IsCut}
 use Rattle.world.proofs.Fence.{Laws}
 use Rattle.world.proofs.Periods.{part_words}
-use Rattle.world.proofs.Rows.{ReaderRows}
+use Rattle.world.proofs.Rows.{Copies, Nests, Unnests, Unlocks, Leaves, Enters, GoesOnline, Announces, Firsts, Nexts, Touches, ReaderRows}
 use Rattle.world.proofs.State.{decide_asker, holder_of, work_of, word_at, Kept, Owes}
 use Rattle.world.proofs.Tests.{not_false}
 
@@ -14,6 +14,9 @@ decide_section s t = by (section_tells s t)
     by : Tells (same_section s t) s t → (s ≡ t) ⊎ (s ≢ t)
     by (inl y) = inl y.1
     by (inr n) = inr n.1
+
+pub longer : (log es : List Event) → length log ≤ length (log ++ es)
+longer log es = omega (arith, length-append log es)
 
 pub log_longer : (log : List Event) (es : List Event) (n : ℕ) → n ≤ length log → n ≤ length (log ++ es)
 log_longer log es n low = omega (arith, low, length-append log es)
@@ -68,9 +71,7 @@ module _ {P : Type 0} (plans : Plans P) (layout : Layout) (slots : ℕ) (laws : 
       There r v → Changes r v v' seen' sections' held' asked' → v'.ordinal ≤ length (w.log ++ told answer) →
       Kept plans layout slots laws (changed w (Read r (record { state = v'; answer = answer }))) (later seen' sections' held' awaited' asked')
   kept_read r v v' answer seen' sections' held' awaited' asked' t c ordinal = record {
-    laid = k.laid;
-    sized = length-set w.readers r v' ∙ k.sized;
-    some_slot = k.some_slot;
+    shape = record { laid = k.shape.laid; sized = length-set w.readers r v' ∙ k.shape.sized; some_slot = k.shape.some_slot };
     links_kept = k.links_kept;
     places_kept = k.places_kept;
     readers_kept = readers_set plans.qsbr layout w.readers number w.objects now.sections sections' now.seen seen' now.held held' r v' t.inside c.mine c.sees c.opens c.closes c.holds k.readers_kept;
@@ -166,130 +167,114 @@ module _ {P : Type 0} (plans : Plans P) (layout : Layout) (slots : ℕ) (laws : 
         (λ mark s _ _ h. marks mark h) refl,
   )
 
-  -- a section opens
-  owes_open : (r : ℕ) (v : ReaderState) (word : ℕ) → There r v → is_in v.word ≡ false → is_in word ≡ true → (plans.qsbr ≡ true → word ≤ number + 1) →
-      OwesRead r (telling (Open (section_of r (v.ordinal + 1))) (opened v word))
-  owes_open r v word t was is low = (
-    ((λ h. let l = t.mine.low (v.ordinal + 1) (in_sections now.seen new h) in omega (arith, l)), tt),
-    kept_read r v (opened v word) (Events (Open new) None) (new ∷ now.seen) (now.sections ++ new ∷ []) now.held now.awaited now.asked_sections t
-        (record {
-          mine = record {
-            low = λ n h. ⊎_elim (λ (e : new ≡ section_of r n). let m : v.ordinal + 1 ≡ n = ap (λ (s : SectionId). s.ordinal) e in omega (arith, m)) (λ (o : In now.seen (section_of r n)). let m = t.mine.low n o in omega (arith, m)) h;
-            opened = λ _. in_last now.sections new;
-            opens = λ n h. (by_more n (in_more now.sections new (section_of r n) h), is);
-            holds = λ o e. absurd (none_some o e);
-            copying = λ copy e. absurd (none_number copy e);
-            marked = low;
-          };
-          sees = λ x n apart h. ⊎_elim (λ (e : new ≡ section_of x n). absurd (apart (sym (ap (λ (s : SectionId). s.reader) e)))) (λ (o : In now.seen (section_of x n)). o) h;
-          opens = λ x n _ h. in_left now.sections (new ∷ []) (section_of x n) h;
-          closes = λ x n apart h. ⊎_elim (λ (o : In now.sections (section_of x n)). o) (λ (e : new ≡ section_of x n). absurd (apart (sym (ap (λ (s : SectionId). s.reader) e)))) (in_more now.sections new (section_of x n) h);
-          holds = λ x n o _ h. h;
-          awaits = λ a s h. h;
-          marks = λ a s h o e. absurd (none_open s o e);
-        })
-        (log_one w.log (Open new) [] v.ordinal t.ordinal),
-  )
-    where
-      new : SectionId
-      new = section_of r (v.ordinal + 1)
+  module _ (r : ℕ) (v : ReaderState) (t : There r v) where
+    -- a section that begins is none that was seen, and no other reader's
+    abbrev new : SectionId
+    new = section_of r (v.ordinal + 1)
 
-      none_number : (copy : ℕ) → None ≡ Some copy → ⊥
-      none_number copy e = cc
+    not_seen : ¬ In now.seen new
+    not_seen h = let l = t.mine.low (v.ordinal + 1) h in omega (arith, l)
 
-      by_more : (n : ℕ) → In now.sections (section_of r n) ⊎ (new ≡ section_of r n) → n ≡ v.ordinal + 1
-      by_more n (inl o) = absurd (true≢false (sym (t.mine.opens n o).1 ∙ was))
-      by_more n (inr e) = sym (ap (λ (s : SectionId). s.ordinal) e)
+    not_new : (x n : ℕ) → x ≢ r → new ≢ section_of x n
+    not_new x n apart e = apart (sym (ap (λ (s : SectionId). s.reader) e))
 
-      none_open : (s : SectionId) → In now.sections s → s.reader ≡ r → ⊥
-      none_open s o e = true≢false (sym (t.mine.opens s.ordinal (subst (λ n. In now.sections (section_of n s.ordinal)) e o)).1 ∙ was)
+    sees_new : (x n : ℕ) → x ≢ r → In (new ∷ now.seen) (section_of x n) → In now.seen (section_of x n)
+    sees_new x n apart h = ⊎_elim (λ (e : new ≡ section_of x n). absurd (not_new x n apart e)) (λ (o : In now.seen (section_of x n)). o) h
 
-  -- what a close leaves
-  module _ (r : ℕ) (v : ReaderState) (t : There r v) (was : is_in v.word ≡ true) where
-    abbrev gone : SectionId
-    gone = section_of r v.ordinal
+    other_open : (sections : List SectionId) (x n : ℕ) → x ≢ r → In (sections ++ new ∷ []) (section_of x n) → In sections (section_of x n)
+    other_open sections x n apart h = ⊎_elim (λ (o : In sections (section_of x n)). o) (λ (e : new ≡ section_of x n). absurd (not_new x n apart e)) (in_more sections new (section_of x n) h)
 
-    elsewhere : (x n : ℕ) → x ≢ r → section_of x n ≢ gone
-    elsewhere x n apart e = apart (ap (λ (s : SectionId). s.reader) e)
+    opened_kept : (word : ℕ) (sections : List SectionId) (held : SectionId → List ObjectId) → is_in word ≡ true → (plans.qsbr ≡ true → word ≤ number + 1) → ((n : ℕ) → ¬ In sections (section_of r n)) →
+        ReaderKept plans.qsbr layout r (opened v word) number w.objects (sections ++ new ∷ []) (new ∷ now.seen) held
+    opened_kept word sections held is low none = record {
+      low = λ n h. ⊎_elim (λ (e : new ≡ section_of r n). let m : v.ordinal + 1 ≡ n = ap (λ (s : SectionId). s.ordinal) e in omega (arith, m)) (λ (o : In now.seen (section_of r n)). let m = t.mine.low n o in omega (arith, m)) h;
+      opened = λ _. in_last sections new;
+      opens = λ n h. (⊎_elim (λ (o : In sections (section_of r n)). absurd (none n o)) (λ (e : new ≡ section_of r n). sym (ap (λ (s : SectionId). s.ordinal) e)) (in_more sections new (section_of r n) h), is);
+      holds = λ o e. absurd (none_some o e);
+      copying = λ copy e. cc;
+      marked = low;
+    }
 
-    abbrev left : List SectionId
-    left = without_section gone now.sections
-
-    none_left : (n : ℕ) → ¬ In left (section_of r n)
-    none_left n h = let o = without_section_has gone now.sections (section_of r n) h in o.1 (ap (section_of r) (t.mine.opens n o.0).0)
-
-    none_of : (s : SectionId) → In left s → s.reader ≡ r → ⊥
-    none_of s h e = none_left s.ordinal (subst (λ n. In left (section_of n s.ordinal)) e h)
-
-    held_left : (x n : ℕ) (o : ObjectId) → x ≢ r → In (now.held (section_of x n)) o → In (at_section gone [] now.held (section_of x n)) o
-    held_left x n o apart h = subst (λ (os : List ObjectId). In os o) (sym (at_section_other gone (section_of x n) [] now.held (elsewhere x n apart))) h
-
-    abbrev asked_left : ℕ → List SectionId
-    asked_left a = without_section gone (now.asked_sections a)
-
-    abbrev awaited_left : ObjectId → List SectionId
-    awaited_left o = without_section gone (now.awaited o)
-
-    asked_open : (a : ℕ) (s : SectionId) → In (asked_left a) s → In now.sections s → In left s
-    asked_open a s h o = has_without_section gone now.sections s o (without_section_has gone (now.asked_sections a) s h).1
-
-    owes_close : (word : ℕ) → is_in word ≡ false → (plans.qsbr ≡ true → word ≤ number + 1) → OwesRead r (telling (Close (section_of r v.ordinal)) (closed v word))
-    owes_close word is low = (
-      (has_section_in now.sections gone (t.mine.opened was), tt),
-      kept_read r v (closed v word) (Events (Close gone) None) now.seen left (at_section gone [] now.held) awaited_left asked_left t
+    -- a section opens
+    owes_open : (word : ℕ) → is_in v.word ≡ false → is_in word ≡ true → (plans.qsbr ≡ true → word ≤ number + 1) → OwesRead r (telling (Open (section_of r (v.ordinal + 1))) (opened v word))
+    owes_open word was is low = (
+      ((λ h. not_seen (in_sections now.seen new h)), tt),
+      kept_read r v (opened v word) (Events (Open new) None) (new ∷ now.seen) (now.sections ++ new ∷ []) now.held now.awaited now.asked_sections t
           (record {
-            mine = record {
+            mine = opened_kept word now.sections now.held is low none_open;
+            sees = sees_new;
+            opens = λ x n _ h. in_left now.sections (new ∷ []) (section_of x n) h;
+            closes = other_open now.sections;
+            holds = λ x n o _ h. h;
+            awaits = λ a s h. h;
+            marks = λ a s h o e. absurd (none_open s.ordinal (subst (λ n. In now.sections (section_of n s.ordinal)) e o));
+          })
+          (log_one w.log (Open new) [] v.ordinal t.ordinal),
+    )
+      where
+        none_open : (n : ℕ) → ¬ In now.sections (section_of r n)
+        none_open n o = true≢false (sym (t.mine.opens n o).1 ∙ was)
+
+    -- what a close leaves
+    module _ (was : is_in v.word ≡ true) where
+      abbrev gone : SectionId
+      gone = section_of r v.ordinal
+
+      elsewhere : (x n : ℕ) → x ≢ r → section_of x n ≢ gone
+      elsewhere x n apart e = apart (ap (λ (s : SectionId). s.reader) e)
+
+      abbrev left : List SectionId
+      left = without_section gone now.sections
+
+      none_left : (n : ℕ) → ¬ In left (section_of r n)
+      none_left n h = let o = without_section_has gone now.sections (section_of r n) h in o.1 (ap (section_of r) (t.mine.opens n o.0).0)
+
+      abbrev asked_left : ℕ → List SectionId
+      asked_left a = without_section gone (now.asked_sections a)
+
+      abbrev awaited_left : ObjectId → List SectionId
+      awaited_left o = without_section gone (now.awaited o)
+
+      -- no open section of the reader is left, and those of others are as before
+      left_changes : (v' : ReaderState) (seen' sections' : List SectionId) → ReaderKept plans.qsbr layout r v' number w.objects sections' seen' (at_section gone [] now.held) →
+          ((x n : ℕ) → x ≢ r → In seen' (section_of x n) → In now.seen (section_of x n)) → ((s : SectionId) → In left s → In sections' s) → ((x n : ℕ) → x ≢ r → In sections' (section_of x n) → In left (section_of x n)) →
+          Changes r v v' seen' sections' (at_section gone [] now.held) asked_left
+      left_changes v' seen' sections' mine sees stays other = record {
+        mine = mine;
+        sees = sees;
+        opens = λ x n apart h. stays (section_of x n) (has_without_section gone now.sections (section_of x n) h (elsewhere x n apart));
+        closes = λ x n apart h. (without_section_has gone now.sections (section_of x n) (other x n apart h)).0;
+        holds = λ x n o apart h. subst (λ (os : List ObjectId). In os o) (sym (at_section_other gone (section_of x n) [] now.held (elsewhere x n apart))) h;
+        awaits = λ a s h. (without_section_has gone (now.asked_sections a) s h).0;
+        marks = λ a s h o e. absurd (none_left s.ordinal (subst (λ n. In left (section_of n s.ordinal)) e (has_without_section gone now.sections s o (without_section_has gone (now.asked_sections a) s h).1)));
+      }
+
+      owes_close : (word : ℕ) → is_in word ≡ false → (plans.qsbr ≡ true → word ≤ number + 1) → OwesRead r (telling (Close (section_of r v.ordinal)) (closed v word))
+      owes_close word is low = (
+        (has_section_in now.sections gone (t.mine.opened was), tt),
+        kept_read r v (closed v word) (Events (Close gone) None) now.seen left (at_section gone [] now.held) awaited_left asked_left t
+            (left_changes (closed v word) now.seen left
+            (record {
               low = t.mine.low;
               opened = λ e. absurd (true≢false (sym e ∙ is));
               opens = λ n h. absurd (none_left n h);
               holds = λ o e. absurd (none_some o e);
               copying = λ copy e. let c = t.mine.copying copy e in ((λ f. is), c.1);
               marked = low;
-            };
-            sees = λ x n _ h. h;
-            opens = λ x n apart h. has_without_section gone now.sections (section_of x n) h (elsewhere x n apart);
-            closes = λ x n _ h. (without_section_has gone now.sections (section_of x n) h).0;
-            holds = held_left;
-            awaits = λ a s h. (without_section_has gone (now.asked_sections a) s h).0;
-            marks = λ a s h o e. absurd (none_of s (asked_open a s h o) e);
-          })
-          (log_longer w.log (Close gone ∷ []) v.ordinal t.ordinal),
-    )
+            })
+            (λ x n _ h. h) (λ s h. h) (λ x n _ h. h))
+            (log_longer w.log (Close gone ∷ []) v.ordinal t.ordinal),
+      )
 
-    -- one section closes and the next one opens
-    owes_announce : (word : ℕ) → is_in word ≡ true → (plans.qsbr ≡ true → word ≤ number + 1) →
-        OwesRead r (record { state = opened v word; answer = Events (Close (section_of r v.ordinal)) (Some (Open (section_of r (v.ordinal + 1)))) })
-    owes_announce word is low = (
-      (has_section_in now.sections gone (t.mine.opened was), ((λ h. let l = t.mine.low (v.ordinal + 1) (in_sections now.seen new h) in omega (arith, l)), tt)),
-      kept_read r v (opened v word) (Events (Close gone) (Some (Open new))) (new ∷ now.seen) (left ++ new ∷ []) (at_section gone [] now.held) awaited_left asked_left t
-          (record {
-            mine = record {
-              low = λ n h. ⊎_elim (λ (e : new ≡ section_of r n). let m : v.ordinal + 1 ≡ n = ap (λ (s : SectionId). s.ordinal) e in omega (arith, m)) (λ (o : In now.seen (section_of r n)). let m = t.mine.low n o in omega (arith, m)) h;
-              opened = λ _. in_last left new;
-              opens = λ n h. (by_more n (in_more left new (section_of r n) h), is);
-              holds = λ o e. absurd (none_some o e);
-              copying = λ copy e. absurd (none_number copy e);
-              marked = low;
-            };
-            sees = λ x n apart h. ⊎_elim (λ (e : new ≡ section_of x n). absurd (apart (sym (ap (λ (s : SectionId). s.reader) e)))) (λ (o : In now.seen (section_of x n)). o) h;
-            opens = λ x n apart h. in_left left (new ∷ []) (section_of x n) (has_without_section gone now.sections (section_of x n) h (elsewhere x n apart));
-            closes = λ x n apart h. ⊎_elim (λ (o : In left (section_of x n)). (without_section_has gone now.sections (section_of x n) o).0) (λ (e : new ≡ section_of x n). absurd (apart (sym (ap (λ (s : SectionId). s.reader) e)))) (in_more left new (section_of x n) h);
-            holds = held_left;
-            awaits = λ a s h. (without_section_has gone (now.asked_sections a) s h).0;
-            marks = λ a s h o e. absurd (none_of s (asked_open a s h o) e);
-          })
-          (log_one w.log (Close gone) (Open new ∷ []) v.ordinal t.ordinal),
-    )
-      where
-        new : SectionId
-        new = section_of r (v.ordinal + 1)
-
-        none_number : (copy : ℕ) → None ≡ Some copy → ⊥
-        none_number copy e = cc
-
-        by_more : (n : ℕ) → In left (section_of r n) ⊎ (new ≡ section_of r n) → n ≡ v.ordinal + 1
-        by_more n (inl o) = absurd (none_left n o)
-        by_more n (inr e) = sym (ap (λ (s : SectionId). s.ordinal) e)
+      -- one section closes and the next one opens
+      owes_announce : (word : ℕ) → is_in word ≡ true → (plans.qsbr ≡ true → word ≤ number + 1) →
+          OwesRead r (record { state = opened v word; answer = Events (Close (section_of r v.ordinal)) (Some (Open (section_of r (v.ordinal + 1)))) })
+      owes_announce word is low = (
+        (has_section_in now.sections gone (t.mine.opened was), ((λ h. not_seen (in_sections now.seen new h)), tt)),
+        kept_read r v (opened v word) (Events (Close gone) (Some (Open new))) (new ∷ now.seen) (left ++ new ∷ []) (at_section gone [] now.held) awaited_left asked_left t
+            (left_changes (opened v word) (new ∷ now.seen) (left ++ new ∷ []) (opened_kept word left (at_section gone [] now.held) is low none_left) sees_new (λ s h. in_left left (new ∷ []) s h) (other_open left))
+            (log_one w.log (Close gone) (Open new ∷ []) v.ordinal t.ordinal),
+      )
 
   -- what was found is held
   kept_got : (r : ℕ) (v : ReaderState) (e : Event) (found : Option ObjectId) → There r v → is_in v.word ≡ true → ((o : ObjectId) → found ≡ Some o → stage_of w.objects o ≢ Fresh) →
@@ -328,11 +313,8 @@ module _ {P : Type 0} (plans : Plans P) (layout : Layout) (slots : ℕ) (laws : 
       let first : first_of (now.chain c) ≡ head = sym ((k.links_kept.chains c).words None tt) ∙ get_or_from_slice_get w.heads c head None at_c in (
         ((has_section_in now.sections (section_of r v.ordinal) (open_section r v t is), first), tt),
         kept_got r v (First (section_of r v.ordinal) c head) head t is
-            (λ o e f. linked_fresh (sym (k.links_kept.linked c o (first_has (now.chain c) o (first ∙ e))).0 ∙ f)),
+            (λ o e f. cc (sym (k.links_kept.linked c o (first_has (now.chain c) o (first ∙ e))).0 ∙ f)),
       )
-    where
-      linked_fresh : Linked ≡ Fresh → ⊥
-      linked_fresh e = cc
 
   -- the link of a known object is its successor, and leads to a known one
   successor_at : (o : ObjectId) → stage_of w.objects o ≢ Fresh → IsSuccessor now o (link_of w.objects o) × ((f : ObjectId) → link_of w.objects o ≡ Some f → stage_of w.objects f ≢ Fresh)
@@ -340,12 +322,6 @@ module _ {P : Type 0} (plans : Plans P) (layout : Layout) (slots : ℕ) (laws : 
     where
       links : LinksKept w.heads w.objects now.chain now.used now.cut now.successor
       links = k.links_kept
-
-      linked_fresh : Linked ≡ Fresh → ⊥
-      linked_fresh e = cc
-
-      linked_cut : Linked ≡ IsCut → ⊥
-      linked_cut e = cc
 
       in_its_chain : (c : ℕ) → In (now.chain c) o → next_of (now.chain c) o ≡ link_of w.objects o
       in_its_chain c h = sym ((links.chains c).words (Some o) h)
@@ -363,7 +339,7 @@ module _ {P : Type 0} (plans : Plans P) (layout : Layout) (slots : ℕ) (laws : 
       by Fresh is = absurd (known is)
       by Linked is =
           let h = links.links o is in
-          (next, λ f e s. linked_fresh (sym (links.linked (chain_of w.objects o) f (follows_has (now.chain (chain_of w.objects o)) (Some o) f (in_its_chain (chain_of w.objects o) h ∙ e))).0 ∙ s))
+          (next, λ f e s. cc (sym (links.linked (chain_of w.objects o) f (follows_has (now.chain (chain_of w.objects o)) (Some o) f (in_its_chain (chain_of w.objects o) h ∙ e))).0 ∙ s))
       by IsCut is = (next, λ f e. links.targets o f is e)
 
   owes_next : (r : ℕ) (v : ReaderState) (o : ObjectId) (x : ObjectState) → There r v → is_in v.word ≡ true → v.cursor ≡ Some o → slice_get w.objects o.0 ≡ Some x → OwesRead r (found_row v x.link (Next (section_of r v.ordinal) o x.link))
@@ -416,23 +392,21 @@ module _ {P : Type 0} (plans : Plans P) (layout : Layout) (slots : ℕ) (laws : 
         (ap not (ne_eqb (copied + 1) 0 (λ e. omega (arith, e))))
 
     pub owes_reads : ReaderRows plans.qsbr layout w r v (OwesRead r)
-    owes_reads = record {
-      copies = λ none zero. owes_copy r v t (λ f. in_memb v.word false f (ap not (zero f)));
-      nests = λ word none f more is.
-          let d = entered_of-nests layout v.word false word (eqb-false (count_of layout v.word) 0 more) is in
-          let deeper : count_of layout word ≢ 0 = λ e. let c = d.count in omega (arith, c, e) in
-          owes_word r v word t (in_memb v.word true f (ap not more)) (in_memb word true f (open_count word deeper)) (memb_marks v.word word f d.phase deeper) (memb_only f number word);
-      unnests = λ word none f is more.
-          owes_word r v word t (was_open word f is) (in_memb word true f (ap not more)) (memb_marks v.word word f (sym (left_of-nests layout v.word word is).phase) (eqb-false (count_of layout word) 0 more)) (memb_only f number word);
-      unlocks = λ word none f is zero. owes_close r v t (was_open word f is) word (in_memb word false f (ap not zero)) (memb_only f number word);
-      leaves = λ none q online. owes_close r v t (in_qsbr v.word true q online) 0 (in_qsbr 0 false q refl) (λ _. omega arith);
-      enters = λ copied word has f is.
-          let idle = was_closed copied has f in
-          let o = entered_of-opens layout v.word (copied == 1) word (eqb-true (count_of layout v.word) 0 (not_false idle)) is in
-          owes_open r v word t (in_memb v.word false f idle) (in_memb word true f (open_count word (λ e. let one = o.0 in omega (arith, one, e)))) (memb_only f number word);
-      goes_online = λ copied has q offline. owes_open r v (announced copied) t (in_qsbr v.word false q offline) (announced_open copied q) (announced_low copied has);
-      announces = λ copied has q online. owes_announce r v t (in_qsbr v.word true q online) (announced copied) (announced_open copied q) (announced_low copied has);
-      firsts = λ c head none is at_c. owes_first r v c head t is at_c;
-      nexts = λ o x none is from at_o. owes_next r v o x t is from at_o;
-      touches = λ o none is from. owes_touch r v o t is from;
-    }
+    owes_reads _ (Copies none zero) = owes_copy r v t (λ f. in_memb v.word false f (ap not (zero f)))
+    owes_reads _ (Nests word none f more is) =
+        let d = entered_of-nests layout v.word false word (eqb-false (count_of layout v.word) 0 more) is in
+        let deeper : count_of layout word ≢ 0 = λ e. let c = d.count in omega (arith, c, e) in
+        owes_word r v word t (in_memb v.word true f (ap not more)) (in_memb word true f (open_count word deeper)) (memb_marks v.word word f d.phase deeper) (memb_only f number word)
+    owes_reads _ (Unnests word none f is more) =
+        owes_word r v word t (was_open word f is) (in_memb word true f (ap not more)) (memb_marks v.word word f (sym (left_of-nests layout v.word word is).phase) (eqb-false (count_of layout word) 0 more)) (memb_only f number word)
+    owes_reads _ (Unlocks word none f is zero) = owes_close r v t (was_open word f is) word (in_memb word false f (ap not zero)) (memb_only f number word)
+    owes_reads _ (Leaves none q online) = owes_close r v t (in_qsbr v.word true q online) 0 (in_qsbr 0 false q refl) (λ _. omega arith)
+    owes_reads _ (Enters copied word has f is) =
+        let idle = was_closed copied has f in
+        let o = entered_of-opens layout v.word (copied == 1) word (eqb-true (count_of layout v.word) 0 (not_false idle)) is in
+        owes_open r v t word (in_memb v.word false f idle) (in_memb word true f (open_count word (λ e. let one = o.0 in omega (arith, one, e)))) (memb_only f number word)
+    owes_reads _ (GoesOnline copied has q offline) = owes_open r v t (announced copied) (in_qsbr v.word false q offline) (announced_open copied q) (announced_low copied has)
+    owes_reads _ (Announces copied has q online) = owes_announce r v t (in_qsbr v.word true q online) (announced copied) (announced_open copied q) (announced_low copied has)
+    owes_reads _ (Firsts c head none is at_c) = owes_first r v c head t is at_c
+    owes_reads _ (Nexts o x none is from at_o) = owes_next r v o x t is from at_o
+    owes_reads _ (Touches o none is from) = owes_touch r v o t is from

@@ -26,9 +26,7 @@ module _ {P : Type 0} (plans : Plans P) (layout : Layout) (slots : ℕ) (laws : 
       Sets (work_of w.updaters w.workers) (work_of (slice_set w.updaters u x') w.workers) y work → Step y work grace answer asked answered awaited →
       Kept plans layout slots laws (changed w (Grace u x' grace answer)) (record now { asked = asked; answered = answered; asked_sections = awaited })
   kept_grace u x x' y work grace answer asked answered awaited t place sets s = record {
-    laid = k.laid;
-    sized = k.sized;
-    some_slot = k.some_slot;
+    shape = k.shape;
     links_kept = k.links_kept;
     places_kept = places_set plans layout slots laws w now k w.heads w.objects u x' t.inside place (λ v p _ h. h);
     readers_kept = readers_over plans.qsbr layout w.readers w.grace.word grace.word w.objects w.objects now.sections now.seen now.held s.rises (λ o known. known) k.readers_kept;

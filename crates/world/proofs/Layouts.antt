@@ -24,15 +24,8 @@ module _ (layout : Layout) where
     where
       by : (v : Option ReaderState) (verb : ReaderVerb) → made (of_reader true (laid layout w) r verb v) ≡ made (of_reader true w r verb v)
       by None verb = refl
-      by (Some v) reader.Lock = refl
-      by (Some v) reader.Unlock = refl
-      by (Some v) reader.Online = refl
-      by (Some v) reader.Quiescent = refl
-      by (Some v) reader.Offline = refl
-      by (Some v) (reader.First c) = refl
-      by (Some v) reader.Next = refl
-      by (Some v) reader.Touch = refl
       by (Some v) reader.GoOn = refl
+      by (Some v) _ = refl
   same_change w (Updater u verb) = refl
   same_change w (Worker k verb) = refl
 

@@ -4,7 +4,7 @@ use Rattle.world.specs.Lines.{with_change, outcome_of, change_of}
 use Rattle.world.specs.Loads.{Move, opens_section, word_for, StoresWhatItLoaded, made_by, move_of, moves_of}
 use Rattle.world.specs.Steps.{IsOfReader}
 use Rattle.world.proofs.Logged.{get_replicate}
-use Rattle.world.proofs.Rows.{ReaderRows, reads_by, IsUpdate, any_retires, any_updates, any_works, Each, Law, by_law}
+use Rattle.world.proofs.Rows.{Copies, Nests, Unnests, Unlocks, Leaves, Enters, GoesOnline, Announces, Firsts, Nexts, Touches, ReaderRows, IsUpdate, any_retires, any_updates, any_works, Each, Law, by_law}
 
 -- a lock of a closed word stores a fresh one
 entered_fresh : (layout : Layout) (word after : ℕ) (phase : Bool) → (count_of layout word == 0) ≡ true → entered_of layout word phase ≡ Ok after → after ≡ fresh layout phase
@@ -38,20 +38,18 @@ module _ {P : Type 0} (qsbr : Bool) (w : BoardView P) (r : ℕ) (v : ReaderState
   }
 
   loads : ReaderRows qsbr w.layout w r v Loads
-  loads = record {
-    copies = λ none zero. record { opens = λ h. absurd (true≢false (sym h)); copies = λ copied e. (cc, zero) };
-    nests = λ word none flavour more is. plain (quietly (with_word v word)) refl none;
-    unnests = λ word none flavour is more. plain (quietly (with_word v word)) refl none;
-    unlocks = λ word none flavour is zero. plain _ refl none;
-    leaves = λ none flavour online. plain _ refl none;
-    enters = λ copied word has flavour is.
-        opening _ copied has (λ closed. entered_fresh w.layout v.word word (copied == 1) (closed flavour) is ∙ sym (cond-false qsbr (announced copied) (fresh w.layout (copied == 1)) flavour)) refl;
-    goes_online = λ copied has flavour offline. opening (go_online_row copied r v) copied has (λ closed. sym (cond-true qsbr (announced copied) (fresh w.layout (copied == 1)) flavour)) refl;
-    announces = λ copied has flavour online. opening (announce_row copied r v) copied has (λ closed. sym (cond-true qsbr (announced copied) (fresh w.layout (copied == 1)) flavour)) refl;
-    firsts = λ c head none open' is. plain _ refl none;
-    nexts = λ o x none open' from is. plain _ refl none;
-    touches = λ o none open' from. plain _ refl none;
-  }
+  loads _ (Copies none zero) = record { opens = λ h. absurd (true≢false (sym h)); copies = λ copied e. (cc, zero) }
+  loads _ (Nests word none flavour more is) = plain (quietly (with_word v word)) refl none
+  loads _ (Unnests word none flavour is more) = plain (quietly (with_word v word)) refl none
+  loads _ (Unlocks word none flavour is zero) = plain _ refl none
+  loads _ (Leaves none flavour online) = plain _ refl none
+  loads _ (Enters copied word has flavour is) =
+      opening _ copied has (λ closed. entered_fresh w.layout v.word word (copied == 1) (closed flavour) is ∙ sym (cond-false qsbr (announced copied) (fresh w.layout (copied == 1)) flavour)) refl
+  loads _ (GoesOnline copied has flavour offline) = opening (go_online_row copied r v) copied has (λ closed. sym (cond-true qsbr (announced copied) (fresh w.layout (copied == 1)) flavour)) refl
+  loads _ (Announces copied has flavour online) = opening (announce_row copied r v) copied has (λ closed. sym (cond-true qsbr (announced copied) (fresh w.layout (copied == 1)) flavour)) refl
+  loads _ (Firsts c head none open' is) = plain _ refl none
+  loads _ (Nexts o x none open' from is) = plain _ refl none
+  loads _ (Touches o none open' from) = plain _ refl none
 
 -- ---- all lines
 
@@ -94,7 +92,7 @@ module _ {P : Type 0} (plans : Plans P) where
   reads_law : (w : BoardView P) → Law plans w (ReadsOver w)
   reads_law w = record {
     stays = stays_over w;
-    reads = λ k v verb was. reads_by plans.qsbr w.layout w k v (Loads plans.qsbr w k v) (λ step. ReadsBy w k (Read k step)) (λ step l. record { state = v; was = was; step = step; is = refl; loads_by = l }) (loads plans.qsbr w k v);
+    reads = λ k v verb was step row. record { state = v; was = was; step = step; is = refl; loads_by = loads plans.qsbr w k v step row };
     updates = λ u x was. any_updates plans w u x (λ v. ReadsOver w (Updater u v)) (λ v. same_readers w) (any_retires plans w u x (λ v. ReadsOver w (Updater u v)) (λ y q act mark answer. refl));
     works = λ k x was. any_works plans w k x (λ v. ReadsOver w (Worker k v)) (λ v y grace act mark answer. refl);
   }

@@ -1,5 +1,5 @@
 -- Each lock is held by just who is inside.
-use Rattle.world.proofs.Cited.{◌≡◌, ◌≢◌, inl, inr, ℕ, ◌+◌, ◌%◌, ◌^◌, ◌<◌, ◌≤◌, true, List, length, slice_get, slice_set, Option, Some, None, refl, sym, ap, ◌∙◌, subst, arith, get_or-set_same, mod_below, none-some, same_Some, get_or_from_slice_get, slice_get_within, ObjectId, Layout, SyncCore, Tickets, WorkerCore, new_core, Config, Line, ObjectState, QueueAct, QueueState, Holder, RetireStep, UpdaterPlace, Idle, Syncs, Retires, UpdaterState, WorkerState, Change, Read, Grace, Work, is_within_limits, new_worker, empty_queue_state, acted, held_by, changed_at, acted_at, held_at, Plans, BoardView, fresh_at, changed, idle, queue_at, changed_length}
+use Rattle.world.proofs.Cited.{◌≡◌, ◌≢◌, inl, inr, ℕ, ◌+◌, ◌%◌, ◌^◌, ◌<◌, ◌≤◌, true, List, length, slice_get, slice_set, Option, Some, None, refl, sym, ap, ◌∙◌, subst, arith, get_or-set_same, mod_below, none-some, same_Some, get_or_from_slice_get, slice_get_within, ObjectId, Layout, SyncCore, Tickets, WorkerCore, new_core, Config, Line, ObjectState, QueueAct, QueueState, Holder, RetireStep, UpdaterPlace, Idle, Syncs, Retires, UpdaterState, WorkerState, Change, Grace, Work, is_within_limits, new_worker, empty_queue_state, acted, held_by, changed_at, acted_at, held_at, Plans, BoardView, fresh_at, changed, idle, queue_at, changed_length}
 use Rattle.call_rcu_worker.specs.declared.sync.SyncCore.TheVariants as core
 use Rattle.call_rcu_worker.specs.declared.worker.WorkerCore.TheVariants as worker
 use Rattle.call_rcu_worker.specs.Worker.{synced as synced_to}
@@ -12,12 +12,12 @@ use Rattle.world.specs.Lines.{world_after}
 use Rattle.world.specs.Locks.{IsInside, SyncsInside, WorksInside, IsInsideNow, IsRetiring, AreHeldInside}
 use Rattle.world.specs.Queues.{queue_of, retire_on}
 use Rattle.world.specs.Workers.{ask_for, act_for, worker_act}
-use Rattle.world.proofs.Callbacks.{RetireKept, at_updaters, at_workers, at_queues}
+use Rattle.world.proofs.Callbacks.{RetireKept, at_queues}
 use Rattle.world.proofs.Fence.{Laws, Holds}
 use Rattle.world.proofs.GraceRows.{LockMoves, Fits, fits_step}
 use Rattle.world.proofs.Logged.{get_replicate, Logged, logged, always}
-use Rattle.world.proofs.Rows.{WasAt, WorkedAt, SyncsAt, Law, any_reads}
-use Rattle.world.proofs.State.{Syncing, Working, asker_of, holder_of, core_work, place_work, worker_work, updater_at, worker_at}
+use Rattle.world.proofs.Rows.{ByPush, ByReplace, ByCut, ByPushed, ByReplaced, BySync, ByTurn, ByStart, ByPoll, ByHold, ByRetire, ByBarrier, ByNote, ByCheck, ByClear, UpdaterRows, WasAt, WorkedAt, SyncsAt, Law}
+use Rattle.world.proofs.State.{Syncing, Working, asker_of, holder_of, core_work, place_work, worker_work, updater_at, worker_at, at_updaters, at_workers}
 
 -- ---- who holds a lock is inside
 
@@ -192,7 +192,7 @@ module _ {P : Type 0} (plans : Plans P) (layout : Layout) (slots : ℕ) (laws : 
       works plans w n x y at.was 0 w.grace.holder a (inl (refl, λ h. absurd (never (subst (λ (c : WorkerCore P Unit). WorksInside c) at.at h)))) keeps k
 
   own_queue : (u : ℕ) → queue_of w u < length w.queues
-  own_queue u = let some = l.callbacks.some in mod_below u (length w.queues) (omega (arith, some))
+  own_queue u = let some = l.callbacks.sizes.some in mod_below u (length w.queues) (omega (arith, some))
 
   -- a step of a retirement that goes on holds the lock
   owned_going : (u : ℕ) (x y : UpdaterState P) (o : ObjectId) (step : RetireStep) (a : QueueAct) → WasAt plans w u x (Retires o step) → IsRetiring y.place → KeepsHolder a → IsOwned w →
@@ -219,27 +219,28 @@ module _ {P : Type 0} (plans : Plans P) (layout : Layout) (slots : ℕ) (laws : 
       ))
       (λ i apart same h. absurd (not_retiring at (λ n. n) h)) k
 
+  owned_updates : (u : ℕ) (x : UpdaterState P) → UpdaterRows plans w u x (λ v. StaysOwned w)
+  owned_updates u x _ _ (ByPush c head at is own) k = beside at _ (λ n. n) (λ n. n) k
+  owned_updates u x _ _ (ByReplace o y at is) k = beside at _ (λ n. n) (λ n. n) k
+  owned_updates u x _ _ (ByCut o y at is) k = beside at _ (λ n. n) (λ n. n) k
+  owned_updates u x _ _ (ByPushed new y at is) k = beside at _ (λ n. n) (λ n. n) k
+  owned_updates u x _ _ (ByReplaced old new y at is) k = beside at _ (λ n. n) (λ n. n) k
+  owned_updates u x _ _ (BySync step at is goes on) k = owned_sync u x (w.grace.asks + 1) new_core step (inl at) (fits_step plans w (holder.Updater u) (w.grace.asks + 1) new_core step is) k
+  owned_updates u x _ _ (ByTurn ask sync step at is goes on) k = owned_sync u x ask sync step (inr at) (fits_step plans w (holder.Updater u) ask sync step is) k
+  owned_updates u x _ _ (ByStart cookie at is) k = beside at _ (λ n. n) (λ n. n) k
+  owned_updates u x _ _ (ByPoll s at is up) k = beside at _ (λ n. n) (λ n. n) k
+  owned_updates u x _ _ (ByHold o q at may is free) k = owned_hold u x _ at tt k
+  owned_updates u x _ _ (ByRetire o step at) k = owned_retire u x o step at k
+  owned_updates u x _ _ (ByBarrier at) k = beside at _ (λ n. n) (λ n. n) k
+  owned_updates u x _ _ (ByNote b q at is) k = beside at _ (λ n. n) (λ n. n) k
+  owned_updates u x _ _ (ByCheck b q at is up more) k = beside at _ (λ n. n) (λ n. n) k
+  owned_updates u x _ _ (ByClear b q at is up last) k = beside at _ (λ n. n) (λ n. n) k
+
   owned_law : Law plans w (λ line. StaysOwned w)
   owned_law = record {
     stays = λ line answer never none k. k;
-    reads = λ r v verb was. any_reads plans.qsbr w.layout w r v (λ step. StaysOwned w (Read r step)) (λ step k. record { grace = k.grace; queues = k.queues });
-    updates = λ u x was. record {
-      pushes = λ c head at is mine k. beside at _ (λ n. n) (λ n. n) k;
-      replaces = λ o y at is k. beside at _ (λ n. n) (λ n. n) k;
-      cuts = λ o y at is k. beside at _ (λ n. n) (λ n. n) k;
-      pushed = λ new y at is k. beside at _ (λ n. n) (λ n. n) k;
-      replaced = λ old new y at is k. beside at _ (λ n. n) (λ n. n) k;
-      asks = λ step at is goes on. owned_sync u x (w.grace.asks + 1) new_core step (inl at) (fits_step plans w (holder.Updater u) (w.grace.asks + 1) new_core step is);
-      turns = λ ask sync step at is goes on. owned_sync u x ask sync step (inr at) (fits_step plans w (holder.Updater u) ask sync step is);
-      starts = λ cookie at is k. beside at _ (λ n. n) (λ n. n) k;
-      polls = λ s at is up k. beside at _ (λ n. n) (λ n. n) k;
-      holds = λ o q at may is free k. owned_hold u x _ at tt k;
-      retires = owned_retire u x;
-      bars = λ at k. beside at _ (λ n. n) (λ n. n) k;
-      notes = λ b q at is k. beside at _ (λ n. n) (λ n. n) k;
-      checks = λ b q at is up more k. beside at _ (λ n. n) (λ n. n) k;
-      clears = λ b q at is up last k. beside at _ (λ n. n) (λ n. n) k;
-    };
+    reads = λ r v verb was step row k. record { grace = k.grace; queues = k.queues };
+    updates = λ u x was. owned_updates u x;
     works = λ n x was. record {
       takes = λ q at is free some k. owned_item n x _ worker.Idle act.Seal at (λ h. h) (λ q. refl) k;
       works = λ sync tickets step at is goes on. owned_work n x sync tickets step at (fits_step plans w (holder.Worker n) (ask_for w x.ask sync) sync step is);
@@ -267,8 +268,7 @@ module _ {P : Type 0} (plans : Plans P) (layout : Layout) (slots : ℕ) (laws : 
   asks_as None h e = absurd (none-some (asker_of h) e)
   asks_as (Some (holder.Updater u)) (holder.Updater v) e = cc
   asks_as (Some (holder.Worker u)) (holder.Worker v) e = cc
-  asks_as (Some (holder.Updater u)) (holder.Worker v) e = cc
-  asks_as (Some (holder.Worker u)) (holder.Updater v) e = cc
+  asks_as (Some _) _ e = cc
 
   retiring_holds : (os : List ObjectState) (qs : List QueueState) (count u : ℕ) (place : UpdaterPlace P) → RetireKept os qs count u place → IsRetiring place → (queue_at qs (u % length qs)).holder ≡ Some u
   retiring_holds os qs count u (Retires o step) k h = k.0

@@ -1,21 +1,20 @@
 -- The world's log is a run, and the world stands as the machine does after it: for every line, and every list of lines.
-use Rattle.world.proofs.Cited.{◌≡◌, ℕ, true≢false, zero, suc, ◌+◌, ◌%◌, ◌^◌, ◌≤◌, nat_le, true, false, List, [], ◌∷◌, ◌++◌, length, get_or, replicate, slice_get, Option, Some, None, Result, Ok, Err, refl, sym, ap, ◌∙◌, subst, arith, and_parts, leb-true, Event, ObjectId, Refusal, State, start, after_all, IsRun, IsPlace, follows, none_some, allowed_append, after_append, Layout, Config, Line, Fresh, Linked, ReaderState, UpdaterState, UpdaterPlace, Idle, Publishes, Syncs, Change, Read, Begin, Publish, is_in, is_within_limits, new_reader, fresh_object, Plans, BoardView, idle, fresh_at, told, changed, no_object, word_of, ReaderKept, not_new, InQueue, queue_at, WorkerState, new_worker, Life, QueueState, empty_queue_state}
+use Rattle.world.proofs.Cited.{length-replicate, ◌≡◌, ℕ, true≢false, zero, suc, ◌+◌, ◌%◌, ◌^◌, ◌≤◌, nat_le, true, List, [], ◌∷◌, ◌++◌, length, get_or, replicate, slice_get, Option, Some, None, Result, Ok, Err, refl, sym, ap, ◌∙◌, subst, arith, and_parts, leb-true, Event, ObjectId, Refusal, State, start, after_all, IsRun, IsPlace, follows, none_some, allowed_append, after_append, Layout, Config, Line, Fresh, ReaderState, UpdaterState, UpdaterPlace, Idle, Publishes, Syncs, Change, Read, Begin, Publish, is_in, is_within_limits, new_reader, fresh_object, Plans, BoardView, idle, fresh_at, changed, no_object, word_of, ReaderKept, not_new, InQueue, queue_at, WorkerState, new_worker, Life, QueueState, empty_queue_state}
 use Rattle.rcu_model.specs.declared.event.Event.TheVariants as events
-use Rattle.world_state.specs.declared.object.Stage.TheVariants.{Cut as IsCut}
 use Rattle.world_state.specs.declared.updater.Publishing.TheVariants as publishing
 use Rattle.world.specs.Chains.{next_object}
 use Rattle.world.specs.Workers.{ask_for}
 use Rattle.world_state.specs.declared.updater.Holder.TheVariants as holder
 use Rattle.world.specs.Lines.{change_of, with_change, outcome_of, world_after}
-use Rattle.world.proofs.Rows.{ReaderRows, reads_both, UpdaterRows, Each, Law, by_law, over_line}
-use Rattle.world.proofs.Fence.{Work, Rests, Starts, Runs, Pending, Holds, Laws}
+use Rattle.world.proofs.Rows.{ByPush, ByReplace, ByCut, ByPushed, ByReplaced, BySync, ByTurn, ByStart, ByPoll, ByHold, ByRetire, ByBarrier, ByNote, ByCheck, ByClear, ReaderRows, UpdaterRows, Each, Law, by_law, over_line}
+use Rattle.world.proofs.Fence.{Work, Rests, Pending, Holds, Laws}
 use Rattle.world.proofs.State.{Asker, Syncing, Polling, Working, place_work, started_work, worker_work, updater_at, worker_at, work_of, UpdaterKept, told_by, log_after, Kept, Owes}
 use Rattle.world.proofs.KeptReaders.{there as reader_there, OwesRead, owes_reads}
 use Rattle.world.proofs.KeptPublishing.{There, there, owes_push, owes_replace, owes_cut, owes_pushed, owes_replaced}
 use Rattle.world.proofs.Asking.{owes_ask, owes_sync}
 use Rattle.world.proofs.KeptWaiting.{OwesTurn, syncing, owes_start, owes_poll}
 use Rattle.world.proofs.Callbacks.{LifeKept, QueueKept, RetireKept, WorkAt, BarKept, Barring, Callbacks}
-use Rattle.world.proofs.Plain.{IsPlain, AreOther, other_reads, PlainChange, OwesAll, plainly}
+use Rattle.world.proofs.Plain.{IsPlain, other_reads, PlainChange, OwesAll, plainly}
 use Rattle.world.proofs.Retirements.{owes_hold, owes_on}
 use Rattle.world.proofs.Barriers.{owes_barrier, owes_note, owes_check, owes_clear}
 use Rattle.world.proofs.WorkerAsks.{OwesTurn as WorkerTurn, owes_batch}
@@ -26,10 +25,6 @@ pub get_replicate : {X : Type 0} (x : X) (n i : ℕ) → get_or (replicate n x) 
 get_replicate x zero i = refl
 get_replicate x (suc n) zero = refl
 get_replicate x (suc n) (suc i) = get_replicate x n i
-
-length_replicate : {X : Type 0} (x : X) (n : ℕ) → length (replicate n x) ≡ n
-length_replicate x zero = refl
-length_replicate x (suc n) = let l = length_replicate x n in omega (arith, l)
 
 module _ {P : Type 0} (plans : Plans P) (layout : Layout) (slots : ℕ) (laws : Laws plans layout slots) where
   module _ (w : BoardView P) (now : State) (k : Kept plans layout slots laws w now) (c : Callbacks w now) where
@@ -44,8 +39,8 @@ module _ {P : Type 0} (plans : Plans P) (layout : Layout) (slots : ℕ) (laws : 
     plain = plainly plans layout slots laws w now k c
 
     reads : (r : ℕ) (v : ReaderState) → slice_get w.readers r ≡ Some v → ReaderRows plans.qsbr w.layout w r v (λ step. OwesNow (Ok (Read r step)))
-    reads r v was = reads_both plans.qsbr w.layout w r v (λ step. AreOther (told step.answer)) (OwesRead plans layout slots laws w now k r) (λ step. OwesNow (Ok (Read r step))) (λ step. plain (Read r step)) (other_reads plans.qsbr w.layout w r v)
-        (subst (λ (l : Layout). ReaderRows plans.qsbr l w r v (OwesRead plans layout slots laws w now k r)) (sym k.laid) (owes_reads plans layout slots laws w now k r v (reader_there plans layout slots laws w now k r v was)))
+    reads r v was step row = plain (Read r step) (other_reads plans.qsbr w.layout w r v step row)
+        (subst (λ (l : Layout). ReaderRows plans.qsbr l w r v (OwesRead plans layout slots laws w now k r)) (sym k.shape.laid) (owes_reads plans layout slots laws w now k r v (reader_there plans layout slots laws w now k r v was)) step row)
 
     module _ (u : ℕ) (x : UpdaterState P) (t : Here u x) where
       -- the work of an updater that is there
@@ -59,29 +54,27 @@ module _ {P : Type 0} (plans : Plans P) (layout : Layout) (slots : ℕ) (laws : 
       rests is = subst (λ (p : UpdaterPlace P). IsPlain p) (sym is) tt
 
       updates : UpdaterRows plans w u x (λ v change. OwesNow (Ok change))
-      updates = record {
-        pushes = λ h head at is writes'. plain (Begin u (record x { place = Publishes (publishing.Push (next_object w)) }) (fresh_object h head)) (t.inside, tt, refl, refl) (owes_push plans layout slots laws w now k u x h head t (ap place_work at.at) is writes');
-        replaces = λ o y at is. plain (Begin u (record x { place = Publishes (publishing.Replace o (next_object w)) }) (fresh_object y.chain y.link)) (t.inside, tt, refl, refl) (owes_replace plans layout slots laws w now k u x o y t (ap place_work at.at) is);
-        cuts = λ o y at is. plain (Publish u x (record { chain = y.chain; before = y.before; after = y.link; leaves = Some o; enters = None }) (events.Cut y.chain o)) (t.inside, rests at.at, tt) (owes_cut plans layout slots laws w now k u x o y t at.at is);
-        pushed = λ m y at is. plain (Publish u (record x { place = Idle }) (record { chain = y.chain; before = None; after = y.link; leaves = None; enters = Some m }) (events.Push y.chain m)) (t.inside, tt, tt)
-            (owes_pushed plans layout slots laws w now k u x m y t (ap place_work at.at) (mine (Publishes (publishing.Push m)) at.at) is);
-        replaced = λ o m y at is. plain (Publish u (record x { place = Idle }) (record { chain = y.chain; before = y.before; after = y.link; leaves = Some o; enters = Some m }) (events.Replace y.chain o m)) (t.inside, tt, tt)
-            (owes_replaced plans layout slots laws w now k u x o m y t (ap place_work at.at) (mine (Publishes (publishing.Replace o m)) at.at) is);
-        asks = λ step at is goes on.
-            subst (OwesTurn plans layout slots laws w now k c u x (w.grace.asks + 1)) is
-            (owes_ask plans layout slots laws w now k (holder.Updater u) (w.grace.asks + 1) (OwesTurn plans layout slots laws w now k c u x (w.grace.asks + 1)) (syncing plans layout slots laws w now k c u x (w.grace.asks + 1) t) (its_work ∙ ap place_work at.at) refl) goes on;
-        turns = λ ask place step at is goes on.
-            subst (OwesTurn plans layout slots laws w now k c u x ask) is
-            (owes_sync plans layout slots laws w now k (holder.Updater u) ask (OwesTurn plans layout slots laws w now k c u x ask) (syncing plans layout slots laws w now k c u x ask t) place (its_work ∙ ap place_work at.at) (mine (Syncs ask place) at.at)) goes on;
-        starts = λ cookie at is. owes_start plans layout slots laws w now k c u x t cookie at.at is;
-        polls = λ s at is up. owes_poll plans layout slots laws w now k c u x t s at.at is up;
-        holds = λ o q at may is free. owes_hold plans layout slots laws w now k c u x t o at.at may q is free;
-        retires = λ o due at. owes_on plans layout slots laws w now k c u x t o due at.at;
-        bars = λ at. owes_barrier plans layout slots laws w now k c u x t at.at;
-        notes = λ b q at is. owes_note plans layout slots laws w now k c u x t b at.at q is;
-        checks = λ b q at is up more. owes_check plans layout slots laws w now k c u x t b at.at q is up more;
-        clears = λ b q at is up last. owes_clear plans layout slots laws w now k c u x t b at.at q is up last;
-      }
+      updates _ _ (ByPush h head at is writes') = plain (Begin u (record x { place = Publishes (publishing.Push (next_object w)) }) (fresh_object h head)) (t.inside, tt, refl, refl) (owes_push plans layout slots laws w now k u x h head t (ap place_work at.at) is writes')
+      updates _ _ (ByReplace o y at is) = plain (Begin u (record x { place = Publishes (publishing.Replace o (next_object w)) }) (fresh_object y.chain y.link)) (t.inside, tt, refl, refl) (owes_replace plans layout slots laws w now k u x o y t (ap place_work at.at) is)
+      updates _ _ (ByCut o y at is) = plain (Publish u x (record { chain = y.chain; before = y.before; after = y.link; leaves = Some o; enters = None }) (events.Cut y.chain o)) (t.inside, rests at.at, tt) (owes_cut plans layout slots laws w now k u x o y t at.at is)
+      updates _ _ (ByPushed m y at is) = plain (Publish u (record x { place = Idle }) (record { chain = y.chain; before = None; after = y.link; leaves = None; enters = Some m }) (events.Push y.chain m)) (t.inside, tt, tt)
+          (owes_pushed plans layout slots laws w now k u x m y t (ap place_work at.at) (mine (Publishes (publishing.Push m)) at.at) is)
+      updates _ _ (ByReplaced o m y at is) = plain (Publish u (record x { place = Idle }) (record { chain = y.chain; before = y.before; after = y.link; leaves = Some o; enters = Some m }) (events.Replace y.chain o m)) (t.inside, tt, tt)
+          (owes_replaced plans layout slots laws w now k u x o m y t (ap place_work at.at) (mine (Publishes (publishing.Replace o m)) at.at) is)
+      updates _ _ (BySync step at is goes on) =
+          subst (OwesTurn plans layout slots laws w now k c u x (w.grace.asks + 1)) is
+          (owes_ask plans layout slots laws w now k (holder.Updater u) (w.grace.asks + 1) (OwesTurn plans layout slots laws w now k c u x (w.grace.asks + 1)) (syncing plans layout slots laws w now k c u x (w.grace.asks + 1) t) (its_work ∙ ap place_work at.at) refl) goes on
+      updates _ _ (ByTurn ask place step at is goes on) =
+          subst (OwesTurn plans layout slots laws w now k c u x ask) is
+          (owes_sync plans layout slots laws w now k (holder.Updater u) ask (OwesTurn plans layout slots laws w now k c u x ask) (syncing plans layout slots laws w now k c u x ask t) place (its_work ∙ ap place_work at.at) (mine (Syncs ask place) at.at)) goes on
+      updates _ _ (ByStart cookie at is) = owes_start plans layout slots laws w now k c u x t cookie at.at is
+      updates _ _ (ByPoll s at is up) = owes_poll plans layout slots laws w now k c u x t s at.at is up
+      updates _ _ (ByHold o q at may is free) = owes_hold plans layout slots laws w now k c u x t o at.at may q is free
+      updates _ _ (ByRetire o due at) = owes_on plans layout slots laws w now k c u x t o due at.at
+      updates _ _ (ByBarrier at) = owes_barrier plans layout slots laws w now k c u x t at.at
+      updates _ _ (ByNote b q at is) = owes_note plans layout slots laws w now k c u x t b at.at q is
+      updates _ _ (ByCheck b q at is up more) = owes_check plans layout slots laws w now k c u x t b at.at q is up more
+      updates _ _ (ByClear b q at is up last) = owes_clear plans layout slots laws w now k c u x t b at.at q is up last
 
     owes : Law plans w (λ line change. OwesNow (Ok change))
     owes = record {
@@ -128,12 +121,12 @@ module _ {P : Type 0} (plans : Plans P) (layout : Layout) (slots : ℕ) (laws : 
 
   fresh_callbacks : (config : Config) (seq : ℕ) → 1 ≤ config.workers → config.workers ≤ 8 → Callbacks (fresh_at {P = P} config seq) start
   fresh_callbacks config seq some few = record {
-    some = subst (λ n. 1 ≤ n) (sym (length_replicate empty_queue_state config.workers)) some;
-    few = subst (λ n. n ≤ 8) (sym (length_replicate empty_queue_state config.workers)) few;
-    manned = length_replicate new_worker config.workers ∙ sym (length_replicate empty_queue_state config.workers);
+    sizes =
+        let long = length-replicate config.workers empty_queue_state in
+        record { some = subst (λ n. 1 ≤ n) (sym long) some; few = subst (λ n. n ≤ 8) (sym long) few; manned = length-replicate config.workers new_worker ∙ sym long };
     items = record {
       lives = λ o. subst (λ (l : Life). LifeKept l o [] [] []) (sym (kept_at o.0)) ((λ h. h), (λ h. h), (λ h. h));
-      found = λ o e. absurd (kept_queued (sym (kept_at o.0) ∙ e));
+      found = λ o e. cc (sym (kept_at o.0) ∙ e);
       there = λ j t o h. absurd (none_there j t o h);
       one_place = λ i j s t o g h. absurd (none_there i s o g);
     };
@@ -144,17 +137,12 @@ module _ {P : Type 0} (plans : Plans P) (layout : Layout) (slots : ℕ) (laws : 
         (subst (λ (x : WorkerState P). WorkAt empty_queue_state [] (λ _. []) (λ _. []) x) (sym (get_replicate new_worker config.workers n)) (refl, refl, omega arith));
     barring = λ u. subst (λ (x : UpdaterState P). BarKept (fresh_at {P = P} config seq).queues [] [] (λ _. []) x.place) (sym (updater_is u)) tt;
     one_barrier = λ u v n a b. absurd (subst (λ (x : UpdaterState P). Barring x.place n) (updater_is u) a);
-    noted_low = λ b h. absurd h;
-    cleared_noted = λ b h. absurd h;
-    barriers_low = omega arith;
+    numbers = record { noted_low = λ b h. absurd h; cleared_noted = λ b h. absurd h; barriers_low = omega arith };
   }
     where
       kept_at : (n : ℕ) → (get_or (fresh_object 0 None ∷ []) n no_object).life ≡ life.Kept
       kept_at zero = refl
       kept_at (suc n) = refl
-
-      kept_queued : life.Kept ≡ life.Queued → ⊥
-      kept_queued e = cc
 
       queue : (j : ℕ) → queue_at (replicate config.workers empty_queue_state) j ≡ empty_queue_state
       queue j = get_replicate empty_queue_state config.workers j
@@ -171,17 +159,15 @@ module _ {P : Type 0} (plans : Plans P) (layout : Layout) (slots : ℕ) (laws : 
     callbacks = fresh_callbacks config seq some_worker few;
     run = tt;
     kept = record {
-      laid = laid;
-      sized = length_replicate new_reader config.readers ∙ sized;
-      some_slot = some;
+      shape = record { laid = laid; sized = length-replicate config.readers new_reader ∙ sized; some_slot = some };
       links_kept = record {
         chains = λ c. record { once = tt; words = words c; befores = λ o h. absurd h };
         linked = λ c o h. absurd h;
-        links = λ o is. absurd (fresh_linked (sym (fresh o.0) ∙ is));
+        links = λ o is. cc (sym (fresh o.0) ∙ is);
         was_cut = λ o h. absurd h;
-        cuts = λ o is. absurd (fresh_cut (sym (fresh o.0) ∙ is));
+        cuts = λ o is. cc (sym (fresh o.0) ∙ is);
         used_known = λ o h. absurd h;
-        targets = λ o f is. absurd (fresh_cut (sym (fresh o.0) ∙ is));
+        targets = λ o f is. cc (sym (fresh o.0) ∙ is);
       };
       places_kept = λ u. subst (λ (x : UpdaterState P). UpdaterKept (fresh_at {P = P} config seq).heads (fresh_at {P = P} config seq).objects (length (replicate config.updaters (idle {P = P}))) u x.place) (sym (get_replicate idle config.updaters u)) tt;
       readers_kept = λ r. subst (λ (v : ReaderState). ReaderKept plans.qsbr layout r v 0 (fresh_at {P = P} config seq).objects [] [] (λ _. [])) (sym (get_replicate new_reader config.readers r))
@@ -190,7 +176,7 @@ module _ {P : Type 0} (plans : Plans P) (layout : Layout) (slots : ℕ) (laws : 
             opened = λ e. absurd (true≢false (sym e ∙ not_new plans.qsbr layout));
             opens = λ n h. absurd h;
             holds = λ o e. absurd (none_some o e);
-            copying = λ copy e. absurd (none_number copy e);
+            copying = λ copy e. cc;
             marked = λ _. omega arith;
           });
       part = record {
@@ -202,8 +188,8 @@ module _ {P : Type 0} (plans : Plans P) (layout : Layout) (slots : ℕ) (laws : 
         };
         grace_kept = record {
           held = λ x h. absurd (subst (λ (v : Work P). Holds v) (rests x) h);
-          starts = λ x a c e. absurd (rests_starts a c (sym (rests x) ∙ e));
-          running = λ x a c p e. absurd (rests_runs a c p (sym (rests x) ∙ e));
+          starts = λ x a c e. cc (sym (rests x) ∙ e);
+          running = λ x a c p e. cc (sym (rests x) ∙ e);
           even = λ _. even;
           number_low = λ _. omega arith;
         };
@@ -217,21 +203,6 @@ module _ {P : Type 0} (plans : Plans P) (layout : Layout) (slots : ℕ) (laws : 
     };
   }
     where
-      fresh_linked : Fresh ≡ Linked → ⊥
-      fresh_linked e = cc
-
-      fresh_cut : Fresh ≡ IsCut → ⊥
-      fresh_cut e = cc
-
-      none_number : (copy : ℕ) → None ≡ Some copy → ⊥
-      none_number copy e = cc
-
-      rests_starts : (a c : ℕ) → (let v : Work P = Rests in v) ≡ Starts a c → ⊥
-      rests_starts a c e = cc
-
-      rests_runs : (a c : ℕ) (p : P) → Rests ≡ Runs a c p → ⊥
-      rests_runs a c p e = cc
-
       fresh : (n : ℕ) → (get_or (fresh_object 0 None ∷ []) n no_object).stage ≡ Fresh
       fresh zero = refl
       fresh (suc n) = refl

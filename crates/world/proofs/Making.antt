@@ -1,5 +1,5 @@
 -- A line asks no more of a queue than the queue has.
-use Rattle.world.proofs.Cited.{◌≡◌, ◌^◌, ◌<◌, ℕ, true≢false, true, false, length, slice_get, Option, Some, None, Ok, refl, ap, ◌∙◌, subst, arith, get_or_from_slice_get, ObjectId, State, SyncCore, Tickets, WorkerCore, Line, QueueAct, QueueState, RetireStep, UpdaterPlace, Retires, UpdaterState, WorkerState, Change, Work, new_worker, empty_queue_state, MayAct, MayActAt, Plans, BoardView, idle, queue_at, MayMake}
+use Rattle.world.proofs.Cited.{◌≡◌, ◌^◌, ◌<◌, ℕ, true≢false, false, length, slice_get, Option, Some, None, Ok, refl, ap, ◌∙◌, subst, arith, get_or_from_slice_get, ObjectId, State, SyncCore, Tickets, WorkerCore, Line, QueueAct, QueueState, RetireStep, UpdaterPlace, Retires, UpdaterState, WorkerState, Change, Work, new_worker, empty_queue_state, MayAct, MayActAt, Plans, BoardView, idle, queue_at, MayMake}
 use Rattle.world_state.specs.declared.queue.QueueAct.TheVariants as act
 use Rattle.world_state.specs.declared.updater.Holder.TheVariants as holder
 use Rattle.world_state.specs.declared.updater.RetireStep.TheVariants as due
@@ -9,8 +9,8 @@ use Rattle.world.specs.Grace.{is_blocked, grace_row}
 use Rattle.world.specs.Lines.{change_of}
 use Rattle.world.specs.Queues.{queue_of, retire_on}
 use Rattle.world.specs.Workers.{ask_for, work_change}
-use Rattle.world.proofs.GraceRows.{turn_of}
-use Rattle.world.proofs.Rows.{WasAt, WorkedAt, WorkerRows, any_reads, IsUpdate, any_updates, Each, Law, by_law}
+use Rattle.world.proofs.GraceRows.{TurnRow, Asking, Blocking, Finding, Ending, turn_of}
+use Rattle.world.proofs.Rows.{WasAt, WorkedAt, WorkerRows, IsUpdate, any_updates, Each, Law, by_law}
 use Rattle.world.proofs.Callbacks.{Callbacks, RetireKept, BatchKept, WorkKept}
 
 module _ {P : Type 0} (plans : Plans P) (w : BoardView P) (now : State) (k : Callbacks w now) (small : length w.log < 2 ^ 63) where
@@ -41,19 +41,15 @@ module _ {P : Type 0} (plans : Plans P) (w : BoardView P) (now : State) (k : Cal
     abbrev MayTell : ℕ → Tickets → SyncCore P → GraceStep P → Type 0
     MayTell ask tickets sync step = Batch tickets sync → is_blocked step.answer ≡ false → MayMake w (work_change n ask tickets step)
 
+    makes_row : (ask : ℕ) (tickets : Tickets) (sync : SyncCore P) (step : GraceStep P) → TurnRow plans w (holder.Worker n) ask sync (Ok step) → MayTell ask tickets sync step
+    makes_row ask tickets _ _ (Asking c is) h made = at_queue (act.Note c) n (let same = h.1 in let some = h.2 in omega (arith, same, some))
+    makes_row ask tickets _ _ (Blocking c other held) h made = absurd (true≢false made)
+    makes_row ask tickets _ _ (Finding c up) h made = at_queue (act.Advance w.grace.seq) n tt
+    makes_row ask tickets _ _ (Ending from grace held asks) h made = at_queue (act.Advance grace.seq) n tt
+    makes_row ask tickets _ _ _ h made = at_queue act.Leave n tt
+
     makes_turn : (ask : ℕ) (tickets : Tickets) (sync : SyncCore P) (step : GraceStep P) → grace_row plans w (holder.Worker n) ask sync ≡ Ok step → MayTell ask tickets sync step
-    makes_turn ask tickets = turn_of plans w (holder.Worker n) ask (MayTell ask tickets) (record {
-      asks = λ c is h made. at_queue (act.Note c) n (let same = h.1 in let some = h.2 in omega (arith, same, some));
-      blocks = λ c other held h made. absurd (true≢false made);
-      locks = λ c free h made. at_queue act.Leave n tt;
-      finds = λ c up h made. at_queue (act.Advance w.grace.seq) n tt;
-      needs = λ c low h made. at_queue act.Leave n tt;
-      stands = λ from c p grace held asks h made. at_queue act.Leave n tt;
-      ends = λ from grace held asks h made. at_queue (act.Advance grace.seq) n tt;
-      goes = λ from c p grace held asks h made. at_queue act.Leave n tt;
-      frees = λ h made. at_queue act.Leave n tt;
-      rests = λ h made. at_queue act.Leave n tt;
-    })
+    makes_turn ask tickets sync step is = makes_row ask tickets sync step (turn_of plans w (holder.Worker n) ask sync step is)
 
     its_work : {core : WorkerCore P Unit} → WorkedAt plans w n x core → Works core
     its_work at = subst (λ (p : WorkerCore P Unit). Works p) at.at (subst (λ (y : WorkerState P). WorkKept mine.items.ready mine.items.waiting mine.items.cookie mine.items.gone mine.finished now.asked now.awaited now.asked_sections y.ask y.core) (get_or_from_slice_get w.workers n x new_worker at.was) (k.working n))
@@ -78,7 +74,7 @@ module _ {P : Type 0} (plans : Plans P) (w : BoardView P) (now : State) (k : Cal
   law : Law plans w (λ line. MayMake w)
   law = record {
     stays = λ line answer never none. tt;
-    reads = λ r v verb was. any_reads plans.qsbr w.layout w r v (λ step. Unit {0}) (λ step. tt);
+    reads = λ r v verb was step row. tt;
     updates = λ u x was. any_updates plans w u x (λ v. MayMake w) (λ v. update_makes) (retiring u x);
     works = λ n x was. works n x;
   }

@@ -1,6 +1,6 @@
 -- A step that is made leaves another world.
-use Rattle.world.proofs.Cited.{◌≡◌, ◌≢◌, ◌≤◌, ◌+◌, ◌-◌, ◌==◌, ℕ, zero, suc, true≢false, cond, Bool, true, false, nat_le, is_some, List, [], ◌∷◌, ◌++◌, length, get_or, slice_get, slice_set, Option, Some, None, Result, Ok, Err, refl, sym, ap, ◌∙◌, subst, arith, get_or-set_same, length-append, slice_get_within, get_or_from_slice_get, Event, Open, Close, First, Next, Touch, ObjectId, Refusal, NestFull, NotOpen, Layout, Narrow, Wide, count_of, greatest_count, fresh, entered_of, is_online, cookie_for, Finished, Turn, FinishesAfter, after_loads, each_turn, steps, turn_count, after_snoc, SyncCore, Tickets, WorkerCore, asked_with, is_finished, turned, told_of, synced, Change, Read, Answer, Events, Quiet, Wait, Blocked, ReaderVerb, ObjectState, ReaderState, ReaderStep, GraceState, Holder, UpdaterPlace, Idle, Syncs, UpdaterState, WorkerState, section_of, quietly, telling, with_word, with_cursor, opened, closed, stores, announce_row, go_online_row, touch_row, Plans, BoardView, changed}
-use Rattle.rcu_model.specs.declared.event.Event.TheVariants.{Ask as Asked, Answer as Answered}
+use Rattle.world.proofs.Cited.{◌≡◌, ◌≢◌, ◌≤◌, ◌+◌, ◌-◌, ◌==◌, ℕ, zero, suc, true≢false, cond, Bool, true, false, nat_le, is_some, List, [], ◌∷◌, ◌++◌, length, get_or, slice_get, slice_set, Option, Some, None, Result, Ok, Err, refl, sym, ap, ◌∙◌, subst, arith, get_or-set_same, length-append, slice_get_within, get_or_from_slice_get, Event, Open, Close, First, Next, Touch, ObjectId, Refusal, NestFull, NotOpen, Layout, Narrow, Wide, count_of, greatest_count, fresh, entered_of, is_online, cookie_for, Finished, Turn, FinishesAfter, after_loads, each_turn, steps, turn_count, went_on, after_snoc, SyncCore, Tickets, WorkerCore, asked_with, is_finished, turned, told_of, synced, Read, Events, Quiet, Wait, Blocked, ReaderVerb, ObjectState, ReaderState, ReaderStep, Holder, Idle, Syncs, UpdaterState, WorkerState, section_of, quietly, telling, with_word, with_cursor, opened, closed, stores, announce_row, go_online_row, touch_row, Plans, BoardView, changed}
+use Rattle.rcu_model.specs.declared.event.Event.TheVariants.{Ask as Asked}
 use Rattle.gp_memb.specs.declared.plan.Turn.TheVariants as turns
 use Rattle.call_rcu_worker.specs.declared.sync.SyncCore.TheVariants as core
 use Rattle.call_rcu_worker.specs.declared.sync.Told.TheVariants as what
@@ -12,7 +12,6 @@ use Rattle.world.specs.declared.grace.GraceStep.{GraceStep}
 use Rattle.world.specs.Chains.{first_row, next_row, next_from}
 use Rattle.world.specs.Grace.{stepped, lock_effect, action_effect, plan_now, done_with, grace_row, sync_place}
 use Rattle.world.specs.Lines.{reader_line, reader_on}
-use Rattle.world.proofs.DrainSteps.{steps_snoc}
 use Rattle.world.proofs.Fence.{Laws, Running}
 use Rattle.world.proofs.Found.{unplanned}
 use Rattle.world.proofs.Tests.{Passes}
@@ -124,6 +123,10 @@ module _ {P : Type 0} (w : BoardView P) where
 -- ---- grace periods
 
 module _ {P : Type 0} (plans : Plans P) (plan : P) (count : ℕ) (finishes : FinishesAfter plans.action plans.turn plans.taken each_turn plan count) where
+  steps_snoc : (p : P) (xs : List ℕ) (x : ℕ) → plans.turn (after_loads plans.taken p xs) x ≡ turns.Step → steps plans.action plans.turn plans.taken each_turn p (xs ++ x ∷ []) ≡ steps plans.action plans.turn plans.taken each_turn p xs + 1
+  steps_snoc p [] x e = rw e refl
+  steps_snoc p (y ∷ ys) x e = ap (λ n. went_on (plans.turn p y) + n) (steps_snoc (plans.taken p y) ys x e) ∙ omega arith
+
   -- while a turn goes on and leaves the plan as it was, such turns are counted without end
   without_end : (loads : List ℕ) (word : ℕ) → plans.turn (after_loads plans.taken plan loads) word ≡ turns.Step → plans.taken (after_loads plans.taken plan loads) word ≡ after_loads plans.taken plan loads →
       (n : ℕ) → (more : List ℕ) × (after_loads plans.taken plan more ≡ after_loads plans.taken plan loads) × (n ≤ steps plans.action plans.turn plans.taken each_turn plan more)
@@ -133,7 +136,7 @@ module _ {P : Type 0} (plans : Plans P) (plan : P) (count : ℕ) (finishes : Fin
         r.0 ++ word ∷ [],
         after_snoc plans.taken plan r.0 word ∙ ap (λ p. plans.taken p word) r.1 ∙ same,
         let low = r.2 in
-            let more = steps_snoc plans.action plans.turn plans.taken plan r.0 word (ap (λ p. plans.turn p word) r.1 ∙ goes) in omega (arith, low, more),
+            let more = steps_snoc plan r.0 word (ap (λ p. plans.turn p word) r.1 ∙ goes) in omega (arith, low, more),
       )
 
   turn_moves : (loads : List ℕ) (word : ℕ) → plans.action (after_loads plans.taken plan loads) ≢ Finished → plans.turn (after_loads plans.taken plan loads) word ≡ turns.Step →
@@ -208,13 +211,8 @@ module _ {P : Type 0} (plans : Plans P) where
   same_place ask one sync more h e = let same : one ≡ sync = cc in more (same ∙ h same)
 
   pub place_moves : (ask : ℕ) (one sync : SyncCore P) → (one ≡ sync → sync ≡ core.Done) → sync_place plans ask one ≢ Syncs ask sync
-  place_moves ask core.Asks sync h = same_place ask core.Asks sync (λ e. cc) h
-  place_moves ask (core.Waits c) sync h = same_place ask (core.Waits c) sync (λ e. cc) h
-  place_moves ask (core.Checks c) sync h = same_place ask (core.Checks c) sync (λ e. cc) h
-  place_moves ask (core.Starts c) sync h = same_place ask (core.Starts c) sync (λ e. cc) h
-  place_moves ask (core.Runs c p) sync h = same_place ask (core.Runs c p) sync (λ e. cc) h
-  place_moves ask core.Frees sync h = same_place ask core.Frees sync (λ e. cc) h
   place_moves ask core.Done sync h = λ e. let no : Idle ≡ Syncs ask sync = e in cc
+  place_moves ask one sync h = same_place ask one sync (λ e. cc) h
 
   abbrev batch : Tickets → SyncCore P → WorkerCore P Unit
   batch t sync = worker.Syncs sync t
@@ -223,10 +221,5 @@ module _ {P : Type 0} (plans : Plans P) where
   same_batch t one sync more h e = let same : one ≡ sync = cc in more (same ∙ h same)
 
   pub core_moves : (t : Tickets) (one sync : SyncCore P) → (one ≡ sync → sync ≡ core.Done) → synced one t ≢ batch t sync
-  core_moves t core.Asks sync h = same_batch t core.Asks sync (λ e. cc) h
-  core_moves t (core.Waits c) sync h = same_batch t (core.Waits c) sync (λ e. cc) h
-  core_moves t (core.Checks c) sync h = same_batch t (core.Checks c) sync (λ e. cc) h
-  core_moves t (core.Starts c) sync h = same_batch t (core.Starts c) sync (λ e. cc) h
-  core_moves t (core.Runs c p) sync h = same_batch t (core.Runs c p) sync (λ e. cc) h
-  core_moves t core.Frees sync h = same_batch t core.Frees sync (λ e. cc) h
   core_moves t core.Done sync h = λ e. let no : worker.Pops t ≡ batch t sync = e in cc
+  core_moves t one sync h = same_batch t one sync (λ e. cc) h

@@ -1,5 +1,5 @@
 -- A step that is made leaves another world: it tells an event, makes an object, or moves whoever made it.
-use Rattle.world.proofs.Cited.{◌≡◌, ◌≢◌, ◌+◌, ◌≤◌, ◌%◌, ◌^◌, ℕ, suc, true≢false, cond, not, nat_lt, Bool, true, false, List, [], ◌∷◌, ◌++◌, length, get_or, slice_get, slice_set, Option, Some, None, Result, Ok, Err, refl, sym, ap, ◌∙◌, subst, arith, IfOk, IfSome, lt-ltb, get_or_from_slice_get, ObjectId, Refusal, State, start, after_all, Layout, FinishesAfter, each_turn, turn_count, cookie_for, Ticket, Item, SyncCore, Told, Tickets, WorkerCore, Telling, new_core, step_of, asked_with, told_of, tickets_from, rest_of, after_take, item_done, Change, Bar, Config, Answer, Quiet, Line, Reader, Updater, Worker, ReaderVerb, UpdaterVerb, WorkerVerb, ObjectState, QueueState, ReaderState, ReaderStep, Barrier, BarrierStep, Note, Check, GraceState, Holder, Publishing, RetireStep, Started, UpdaterPlace, Idle, Publishes, Syncs, Retires, Bars, UpdaterState, WorkerState, is_within_limits, fresh_object, new_worker, empty_queue_state, Plans, BoardView, changed, told, idle, fresh_at}
+use Rattle.world.proofs.Cited.{◌≡◌, ◌≢◌, ◌+◌, ◌≤◌, ◌%◌, ◌^◌, ℕ, suc, true≢false, cond, nat_lt, Bool, true, false, List, [], ◌∷◌, ◌++◌, length, get_or, slice_get, slice_set, Option, Some, None, Result, Ok, Err, refl, sym, ap, ◌∙◌, subst, arith, IfOk, IfSome, lt-ltb, get_or_from_slice_get, ObjectId, Refusal, State, start, after_all, Layout, FinishesAfter, each_turn, turn_count, cookie_for, Ticket, Item, SyncCore, Told, Tickets, WorkerCore, Telling, new_core, step_of, asked_with, told_of, tickets_from, rest_of, after_take, item_done, Change, Bar, Config, Answer, Quiet, Line, Reader, Updater, Worker, ReaderVerb, UpdaterVerb, WorkerVerb, ObjectState, QueueState, ReaderState, ReaderStep, Barrier, BarrierStep, Note, Check, GraceState, Holder, Publishing, RetireStep, Started, UpdaterPlace, Idle, Publishes, Syncs, Retires, Bars, UpdaterState, WorkerState, is_within_limits, fresh_object, new_worker, empty_queue_state, Plans, BoardView, changed, told, idle, fresh_at}
 use Rattle.rcu_model.specs.declared.event.Event.TheVariants as events
 use Rattle.gp_memb.specs.declared.plan.Turn.TheVariants as turns
 use Rattle.call_rcu_worker.specs.declared.sync.SyncCore.TheVariants as core
@@ -53,11 +53,7 @@ begins t false is core rests e = absurd (true≢false (sym is))
 
 takes : {P : Type 0} (core : WorkerCore P Unit) → is_resting core ≡ true → (first : Ticket) (count : ℕ) → 1 ≤ count → after_take core first count ≢ core
 takes worker.Idle r first count some = begins (tickets_from first count) (nat_lt 0 count) (lt-ltb 0 count some) worker.Idle refl
-takes (worker.Syncs sync tickets) r first count some = absurd (true≢false (sym r))
-takes (worker.Pops tickets) r first count some = absurd (true≢false (sym r))
-takes (worker.Runs tickets ticket item) r first count some = absurd (true≢false (sym r))
-takes (worker.Ran tickets ticket item) r first count some = absurd (true≢false (sym r))
-takes (worker.Counts tickets ticket) r first count some = absurd (true≢false (sym r))
+takes _ r first count some = absurd (true≢false (sym r))
 
 -- nor is one that has run an item still at it
 counts : {P : Type 0} (core : WorkerCore P Unit) (tickets : Tickets) (ticket : Ticket) (item : Item Unit) → core ≡ worker.Ran tickets ticket item → (more : Bool) → cond more (worker.Pops (rest_of tickets)) worker.Idle ≢ core
@@ -214,11 +210,7 @@ module _ {P : Type 0} (plans : Plans P) (layout : Layout) (slots : ℕ) (laws : 
 
     all_fresh : (core : WorkerCore P Unit) → is_resting core ≡ true → Kept (record x { core = core }) → (mine.items.ready ≡ []) × (mine.items.waiting ≡ [])
     all_fresh worker.Idle r h = (h.0, h.1)
-    all_fresh (worker.Syncs sync tickets) r h = absurd (true≢false (sym r))
-    all_fresh (worker.Pops tickets) r h = absurd (true≢false (sym r))
-    all_fresh (worker.Runs tickets ticket item) r h = absurd (true≢false (sym r))
-    all_fresh (worker.Ran tickets ticket item) r h = absurd (true≢false (sym r))
-    all_fresh (worker.Counts tickets ticket) r h = absurd (true≢false (sym r))
+    all_fresh _ r h = absurd (true≢false (sym r))
 
     moves_take : is_resting x.core ≡ true → (q : Option QueueState) → slice_get w.queues k ≡ q → Passes (take_row w k x q).tests → Moves (take_row w k x q).effect
     moves_take rests None is p = tt
@@ -236,7 +228,6 @@ module _ {P : Type 0} (plans : Plans P) (layout : Layout) (slots : ℕ) (laws : 
     moves_run tickets (Some first) = λ same. told_more w _ (events.Run first.1) [] same refl
 
     moves_core : (place : WorkerCore P Unit) → x.core ≡ place → Passes (worker_on plans w k x place).tests → Moves (worker_on plans w k x place).effect
-    moves_core worker.Idle is p = tt
     moves_core (worker.Syncs sync tickets) is p =
         moves_sync (work_change k (ask_for w x.ask sync) tickets) sync (λ step. refl)
         (λ step h same. core_moves plans tickets step.core sync h (core_stays (record { ask = ask_for w x.ask sync; core = after_sync step.core tickets }) _ same refl ∙ is))
@@ -245,10 +236,9 @@ module _ {P : Type 0} (plans : Plans P) (layout : Layout) (slots : ℕ) (laws : 
         (turns_move (Working k) x.ask sync (ap (λ (y : WorkerState P). worker_work y.ask y.core) (get_or_from_slice_get w.workers k x new_worker there) ∙ ap (worker_work x.ask) is)))
         p
     moves_core (worker.Pops tickets) is p = moves_run tickets (first_in (slice_get w.queues k))
-    moves_core (worker.Runs tickets ticket item) is p = tt
     moves_core (worker.Ran tickets ticket item) is p = λ same.
         counts x.core tickets ticket item is (nat_lt 1 tickets.left) (core_stays (with_core x (item_done (worker.Counts tickets ticket))) _ same refl)
-    moves_core (worker.Counts tickets ticket) is p = tt
+    moves_core _ is p = tt
 
     moves_work : (v : WorkerVerb) → Passes (worker_line plans w k x v).tests → Moves (worker_line plans w k x v).effect
     moves_work verb.Take p = moves_take (not_false p.0) (slice_get w.queues k) refl p.1

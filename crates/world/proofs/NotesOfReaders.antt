@@ -11,7 +11,7 @@ use Rattle.world.specs.Queues.{retire_on}
 use Rattle.world.specs.Workers.{ask_for}
 use Rattle.world.specs.Grace.{grace_row}
 use Rattle.world.proofs.GraceRows.{tells}
-use Rattle.world.proofs.Rows.{ReaderRows, reads_by, IsPublishing, IsWaiting, IsUpdate, any_updates, WasAt, Law, over_lines}
+use Rattle.world.proofs.Rows.{Copies, Nests, Unnests, Unlocks, Leaves, Enters, GoesOnline, Announces, Firsts, Nexts, Touches, ReaderRows, IsPublishing, IsWaiting, IsUpdate, any_updates, WasAt, Law, over_lines}
 use Rattle.world.proofs.State.{told_by, log_after}
 
 -- the same number, and two that differ
@@ -42,30 +42,28 @@ module _ {P : Type 0} (qsbr : Bool) (layout : Layout) (w : BoardView P) (r : ℕ
   stands_closed word = record { own = (sym (itself r None v.cursor), (tt, tt)); others = λ s apart got. (sym (another r s None got apart), (tt, tt)) }
 
   stands : ReaderRows qsbr layout w r v (Stands r v)
-  stands = record {
-    copies = λ none zero. stands_quiet (record v { copy = Some w.grace.word }) refl;
-    nests = λ word none flavour more is. stands_quiet (with_word v word) refl;
-    unnests = λ word none flavour is more. stands_quiet (with_word v word) refl;
-    unlocks = λ word none flavour is zero. stands_closed word;
-    leaves = λ none flavour online. stands_closed 0;
-    enters = λ copied word has flavour is. stands_opened word;
-    goes_online = λ copied has flavour offline. stands_opened (announced copied);
-    announces = λ copied has flavour online. record {
-      own = (sym (itself r None (cond (r == r) None v.cursor)), (tt, (tt, tt)));
-      others = λ s apart got. (sym (another r s None (cond (r == s) None got) apart ∙ another r s None got apart), (tt, (tt, tt)));
-    };
-    firsts = λ c head none open' is. record {
-      own = (sym (itself r (option_or head v.cursor) v.cursor), (tt, tt));
-      others = λ s apart got. (sym (another r s (option_or head got) got apart), (tt, tt));
-    };
-    nexts = λ o x none open' from is. record {
-      own = (sym (itself r (option_or x.link v.cursor) v.cursor), ((λ _. from), tt));
-      others = λ s apart got. (sym (another r s (option_or x.link got) got apart), ((λ e. absurd (apart (sym e))), tt));
-    };
-    touches = λ o none open' from. record {
-      own = (refl, ((λ _. from), tt));
-      others = λ s apart got. (refl, ((λ e. absurd (apart (sym e))), tt));
-    };
+  stands _ (Copies none zero) = stands_quiet (record v { copy = Some w.grace.word }) refl
+  stands _ (Nests word none flavour more is) = stands_quiet (with_word v word) refl
+  stands _ (Unnests word none flavour is more) = stands_quiet (with_word v word) refl
+  stands _ (Unlocks word none flavour is zero) = stands_closed word
+  stands _ (Leaves none flavour online) = stands_closed 0
+  stands _ (Enters copied word has flavour is) = stands_opened word
+  stands _ (GoesOnline copied has flavour offline) = stands_opened (announced copied)
+  stands _ (Announces copied has flavour online) = record {
+    own = (sym (itself r None (cond (r == r) None v.cursor)), (tt, (tt, tt)));
+    others = λ s apart got. (sym (another r s None (cond (r == s) None got) apart ∙ another r s None got apart), (tt, (tt, tt)));
+  }
+  stands _ (Firsts c head none open' is) = record {
+    own = (sym (itself r (option_or head v.cursor) v.cursor), (tt, tt));
+    others = λ s apart got. (sym (another r s (option_or head got) got apart), (tt, tt));
+  }
+  stands _ (Nexts o x none open' from is) = record {
+    own = (sym (itself r (option_or x.link v.cursor) v.cursor), ((λ _. from), tt));
+    others = λ s apart got. (sym (another r s (option_or x.link got) got apart), ((λ e. absurd (apart (sym e))), tt));
+  }
+  stands _ (Touches o none open' from) = record {
+    own = (refl, ((λ _. from), tt));
+    others = λ s apart got. (refl, ((λ e. absurd (apart (sym e))), tt));
   }
 
 -- ---- the rows
@@ -77,14 +75,11 @@ module _ {P : Type 0} (plans : Plans P) (w : BoardView P) where
   read_on : (r : ℕ) (v : ReaderState) (step : ReaderStep) → slice_get w.readers r ≡ Some v → Stands r v step → GoOnBy (Read r step)
   read_on r v step was stands s = by (decide_number s r)
     where
-      old : cursor_of w r ≡ v.cursor
-      old = ap (λ (y : ReaderState). y.cursor) (get_or_from_slice_get w.readers r v new_reader was)
-
       new : (reader_at (slice_set w.readers r step.state) r).cursor ≡ step.state.cursor
       new = ap (λ (y : ReaderState). y.cursor) (get_or-set_same w.readers r step.state new_reader (slice_get_within w.readers r v was))
 
       here : GoesOn r (cursor_of w r) (reader_at (slice_set w.readers r step.state) r).cursor (told step.answer)
-      here = subst (λ (c : Option ObjectId). GoesOn r c (reader_at (slice_set w.readers r step.state) r).cursor (told step.answer)) (sym old) (new ∙ stands.own.0, stands.own.1)
+      here = subst (λ (c : Option ObjectId). GoesOn r c (reader_at (slice_set w.readers r step.state) r).cursor (told step.answer)) (sym (ap (λ (y : ReaderState). y.cursor) (get_or_from_slice_get w.readers r v new_reader was))) (new ∙ stands.own.0, stands.own.1)
 
       by : (s ≡ r) ⊎ (s ≢ r) → GoesOn s (cursor_of w s) (reader_at (slice_set w.readers r step.state) s).cursor (told step.answer)
       by (inl e) = subst (λ t. GoesOn t (cursor_of w t) (reader_at (slice_set w.readers r step.state) t).cursor (told step.answer)) (sym e) here
@@ -128,7 +123,7 @@ module _ {P : Type 0} (plans : Plans P) (w : BoardView P) where
   law : Law plans w (λ line. GoOnBy)
   law = record {
     stays = λ line answer never none s. (refl, tt);
-    reads = λ r v verb was. reads_by plans.qsbr w.layout w r v (Stands r v) (λ step. GoOnBy (Read r step)) (λ step. read_on r v step was) (stands plans.qsbr w.layout w r v);
+    reads = λ r v verb was step row. read_on r v step was (stands plans.qsbr w.layout w r v step row);
     updates = λ u x was. any_updates plans w u x (λ v. GoOnBy) (λ v. update_on) (read_retire u x);
     works = λ k x was. record {
       takes = λ q at is free some s. (refl, tt);

@@ -1,14 +1,14 @@
 -- An updater notes the ask and the cookie of its latest `start`, until a `poll` answers it.
-use Rattle.world.proofs.Cited.{◌≡◌, ◌≢◌, ◌⊎◌, ℕ, inl, inr, ◌+◌, ◌==◌, cond, Bool, true, false, List, [], ◌∷◌, slice_get, slice_set, Option, Some, None, Result, Ok, Err, refl, sym, ap, ◌∙◌, subst, get_or-set_same, get_or-set_other, get_or_from_slice_get, slice_get_within, ObjectId, Refusal, Answer, Events, Quiet, Line, Reader, Updater, Worker, UpdaterVerb, RetireStep, Started, UpdaterPlace, Idle, Retires, UpdaterState, Change, Read, Plans, BoardView, changed, answer_of, idle, decide_number}
+use Rattle.world.proofs.Cited.{◌≡◌, ◌≢◌, ◌⊎◌, ℕ, inl, inr, ◌+◌, ◌==◌, cond, Bool, true, false, List, [], ◌∷◌, slice_get, slice_set, Option, Some, None, Result, Ok, Err, refl, sym, ap, ◌∙◌, subst, get_or-set_same, get_or-set_other, get_or_from_slice_get, slice_get_within, ObjectId, Refusal, Answer, Events, Quiet, Line, Reader, Updater, Worker, UpdaterVerb, RetireStep, Started, UpdaterPlace, Idle, Retires, UpdaterState, Change, Plans, BoardView, changed, answer_of, idle, decide_number}
 use Rattle.rcu_model.specs.declared.event.Event.TheVariants as events
 use Rattle.world_state.specs.declared.line.UpdaterVerb.TheVariants as updater
 use Rattle.world_state.specs.declared.updater.RetireStep.TheVariants as due
 use Rattle.world.specs.Lines.{change_of, with_change, outcome_of, world_after}
 use Rattle.world.specs.Notes.{Reply, note_of, noted_by, noted_after, noted_last, IsAnswerTo, IsOfNoted, IsPolled, ArePolled, started_by, replies_to}
-use Rattle.world.specs.Queues.{barrier_row, queue_of, retire_on}
+use Rattle.world.specs.Queues.{queue_of, retire_on}
 use Rattle.world.specs.Steps.{events_of}
 use Rattle.world.proofs.NotesOfReaders.{itself, another}
-use Rattle.world.proofs.Rows.{any_reads, any_works, UpdaterRows, Each, Law, by_law}
+use Rattle.world.proofs.Rows.{ByStart, ByPoll, ByRetire, any_works, UpdaterRows, Each, Law, by_law}
 use Rattle.world.proofs.State.{updater_at}
 
 both_same : (b : Bool) (x y : Option Started) → x ≡ y → y ≡ cond b x y
@@ -62,28 +62,15 @@ module _ {P : Type 0} (plans : Plans P) (w : BoardView P) where
     retires o due.Free = same updater.GoOn Idle Quiet (λ n. (refl, tt))
 
     updates : UpdaterRows plans w u x (λ v. NotedOver (Updater u v))
-    updates = record {
-      pushes = λ c head at is mine. same (updater.Push c) _ Quiet (λ n. (refl, tt));
-      replaces = λ o y at is. same (updater.Replace o) _ Quiet (λ n. (refl, tt));
-      cuts = λ o y at is. same (updater.Cut o) x.place (Events (events.Cut y.chain o) None) (λ n. (refl, tt));
-      pushed = λ new y at is. same updater.GoOn Idle (Events (events.Push y.chain new) None) (λ n. (refl, tt));
-      replaced = λ old new y at is. same updater.GoOn Idle (Events (events.Replace y.chain old new) None) (λ n. (refl, tt));
-      asks = λ step at is goes on. same updater.Sync _ step.answer (λ n. (refl, tt));
-      turns = λ ask core step at is goes on. same updater.GoOn _ step.answer (λ n. (refl, tt));
-      starts = λ cookie at is. noted updater.Start _ (Events (events.Ask (w.grace.asks + 1)) None) (sym (ap (note_of (events.Ask (w.grace.asks + 1))) is)) tt;
-      polls = λ y at is up. noted updater.Poll _ (Events (events.Answer y.ask) None) refl (subst (λ (n : Option Started). IsAnswerTo n (events.Answer y.ask)) (sym (noted_now ∙ is)) refl);
-      holds = λ o q at may is free. same (updater.Retire o) _ Quiet (λ n. (refl, tt));
-      retires = λ o step at. retires o step;
-      bars = λ at. same updater.Barrier _ (answer_of (barrier_row w u x)) (λ n. (refl, tt));
-      notes = λ b q at is. same updater.GoOn _ Quiet (λ n. (refl, tt));
-      checks = λ b q at is up more. same updater.GoOn _ Quiet (λ n. (refl, tt));
-      clears = λ b q at is up last. same updater.GoOn _ (Events (events.Clear b.number) None) (λ n. (refl, tt));
-    }
+    updates _ _ (ByStart cookie at is) = noted updater.Start _ (Events (events.Ask (w.grace.asks + 1)) None) (sym (ap (note_of (events.Ask (w.grace.asks + 1))) is)) tt
+    updates _ _ (ByPoll y at is up) = noted updater.Poll _ (Events (events.Answer y.ask) None) refl (subst (λ (n : Option Started). IsAnswerTo n (events.Answer y.ask)) (sym (noted_now ∙ is)) refl)
+    updates _ _ (ByRetire o step at) = retires o step
+    updates v change _ = same v _ (answer_of change) (λ n. (refl, tt))
 
   notes : Law plans w NotedOver
   notes = record {
     stays = λ line answer never none s. unmoved line (Ok answer) none s (started_by w s);
-    reads = λ r v verb was. any_reads plans.qsbr w.layout w r v (λ step. NotedOver (Reader r verb) (Read r step)) (λ step s. (refl, tt));
+    reads = λ r v verb was step row s. (refl, tt);
     updates = updates;
     works = λ k x was. any_works plans w k x (λ v. NotedOver (Worker k v)) (λ v y grace act mark answer s. (refl, tt));
   }

@@ -1,7 +1,7 @@
 -- What a reader's step tells: the next section, where one opens, and no ask, barrier or new object.
 use Rattle.world.proofs.Cited.{◌≡◌, ◌⊎◌, ℕ, inl, inr, ◌+◌, Bool, [], ◌∷◌, refl, filter_map, Open, Layout, ReaderState, ReaderStep, section_of, BoardView, told}
 use Rattle.world.specs.Given.{ordinal_of, ask_of, barrier_of, object_of}
-use Rattle.world.proofs.Rows.{ReaderRows}
+use Rattle.world.proofs.Rows.{Enters, GoesOnline, Announces, ReaderRows}
 
 -- the reader's next section opens, or none does
 pub record Opens (r : ℕ) (v : ReaderState) (step : ReaderStep) : Type 0 where
@@ -16,16 +16,7 @@ module _ {P : Type 0} (qsbr : Bool) (layout : Layout) (w : BoardView P) (r : ℕ
   none_opens step asks barriers objects none same = record { asks = asks; barriers = barriers; objects = objects; sections = inl (none, same) }
 
   pub opens : ReaderRows qsbr layout w r v (Opens r v)
-  opens = record {
-    copies = λ none zero. none_opens _ refl refl refl (λ s. refl) refl;
-    nests = λ word none flavour more is. none_opens _ refl refl refl (λ s. refl) refl;
-    unnests = λ word none flavour is more. none_opens _ refl refl refl (λ s. refl) refl;
-    unlocks = λ word none flavour is zero. none_opens _ refl refl refl (λ s. refl) refl;
-    leaves = λ none flavour online. none_opens _ refl refl refl (λ s. refl) refl;
-    enters = λ copied word has flavour is. record { asks = refl; barriers = refl; objects = refl; sections = inr ((λ s. refl), refl) };
-    goes_online = λ copied has flavour offline. record { asks = refl; barriers = refl; objects = refl; sections = inr ((λ s. refl), refl) };
-    announces = λ copied has flavour online. record { asks = refl; barriers = refl; objects = refl; sections = inr ((λ s. refl), refl) };
-    firsts = λ c head none open' is. none_opens _ refl refl refl (λ s. refl) refl;
-    nexts = λ o x none open' from is. none_opens _ refl refl refl (λ s. refl) refl;
-    touches = λ o none open' from. none_opens _ refl refl refl (λ s. refl) refl;
-  }
+  opens _ (Enters copied word has flavour is) = record { asks = refl; barriers = refl; objects = refl; sections = inr ((λ s. refl), refl) }
+  opens _ (GoesOnline copied has flavour offline) = record { asks = refl; barriers = refl; objects = refl; sections = inr ((λ s. refl), refl) }
+  opens _ (Announces copied has flavour online) = record { asks = refl; barriers = refl; objects = refl; sections = inr ((λ s. refl), refl) }
+  opens _ _ = none_opens _ refl refl refl (λ s. refl) refl

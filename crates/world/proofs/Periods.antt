@@ -1,6 +1,6 @@
 -- What each step of a grace period keeps of asks, the lock, the plan and the fence.
 use Rattle.world.proofs.Cited.{◌≡◌, ◌≢◌, ◌⊎◌, ◌+◌, ◌%◌, ◌^◌, ◌<◌, ◌≤◌, ⊎_elim, ℕ, leb, true, false, List, [], ◌∷◌, ◌++◌, Option, Some, None, refl, sym, ap, ◌∙◌, subst, arith, leb_tells, SectionId, In, empty_from, Layout, Load, StoreSeq, Finished, Shows, StoresInOrder, present_after, IsPresent, after_snoc, may_begin, never_finished, Plans}
-use Rattle.world.proofs.Fence.{Work, Rests, Waits, Checks, Starts, Runs, Frees, Pending, Holds, RunsNone, StartsNone, Laws, Sets, set_cases, AsksKept, slot_turn, runs_no_group, Old, Running, GraceKept, Fenced, fenced_words, even_at, grace_set, asks_set, fenced_set, asks_asked, asks_answered, asks_later, fenced_asked}
+use Rattle.world.proofs.Fence.{Work, Rests, Waits, Checks, Starts, Runs, Frees, Pending, Holds, holding, pending_was, only_holder, RunsNone, Laws, Sets, set_cases, AsksKept, slot_turn, runs_no_group, Old, Running, GraceKept, Fenced, fenced_words, even_at, grace_set, asks_set, fenced_set, asks_asked, asks_answered, asks_later, fenced_asked}
 
 module _ {P : Type 0} (plans : Plans P) (layout : Layout) (slots : ℕ) (laws : Laws plans layout slots) {A : Type 0} (decide : (x y : A) → (x ≡ y) ⊎ (x ≢ y)) where
   abbrev shows : ℕ → ℕ → Type 0
@@ -31,15 +31,6 @@ module _ {P : Type 0} (plans : Plans P) (layout : Layout) (slots : ℕ) (laws : 
   }
 
   -- the ask
-  waits_none : (a c : ℕ) → RunsNone {P = P} (Waits a c)
-  waits_none a c b d p e = cc
-
-  waits_starts : (a c : ℕ) → StartsNone {P = P} (Waits a c)
-  waits_starts a c b d e = cc
-
-  rests_runs : RunsNone {P = P} Rests
-  rests_runs a c p e = cc
-
   at_runs : (works : A → Work P) (x : A) (w : Work P) → works x ≡ w → RunsNone w → RunsNone (works x)
   at_runs works x w is none a c p e = none a c p (sym is ∙ e)
 
@@ -49,8 +40,8 @@ module _ {P : Type 0} (plans : Plans P) (layout : Layout) (slots : ℕ) (laws : 
       Part holder works words asks seq number asked answered awaited sections → Part holder works' words (asks + 1) seq number ((asks + 1) ∷ asked) answered awaited' sections
   part_asked holder works works' words asks seq number c asked answered awaited awaited' sections x rests s fine others opens k = record {
     asks_kept = asks_asked plans layout slots laws decide works works' asks seq c asked answered x s (fine.1, fine.2, fine.3) k.asks_kept;
-    grace_kept = grace_set plans layout slots laws decide holder holder works works' seq number x (Waits (asks + 1) c) s rests (waits_none (asks + 1) c)
-        (λ a d e. absurd (waits_starts (asks + 1) c a d e)) (λ h. absurd h) (λ y _ h. k.grace_kept.held y h) k.grace_kept;
+    grace_kept = grace_set plans layout slots laws decide holder holder works works' seq number x (Waits (asks + 1) c) s rests (λ b d p e. cc)
+        (λ a d e. cc) (λ h. absurd h) (λ y _ h. k.grace_kept.held y h) k.grace_kept;
     fenced = fenced_asked plans layout slots laws decide works works' words asks seq c asked answered awaited awaited' x s fine.0 others k.asks_kept k.fenced;
     awaited_open = opens;
   }
@@ -59,107 +50,62 @@ module _ {P : Type 0} (plans : Plans P) (layout : Layout) (slots : ℕ) (laws : 
   same_ask : (works : A → Work P) (x : A) (w v : Work P) → works x ≡ w → ((a c : ℕ) → Pending v a c → Pending w a c) → (a c : ℕ) → Pending v a c → Pending (works x) a c
   same_ask works x w v is less a c h = subst (λ (u : Work P). Pending u a c) (sym is) (less a c h)
 
-  checks_runs : (a c : ℕ) → RunsNone {P = P} (Checks a c)
-  checks_runs a c b d p e = cc
-
-  checks_starts : (a c : ℕ) → StartsNone {P = P} (Checks a c)
-  checks_starts a c b d e = cc
+  -- from one work to another, neither of which runs a plan
+  part_set : (holder holder' : Option A) (works works' : A → Work P) (words : ℕ → ℕ) (asks seq number : ℕ) (asked answered answered' : List ℕ) (awaited : ℕ → List SectionId) (sections : List SectionId) (x : A) (v u : Work P) →
+      works x ≡ v → Sets works works' x u → RunsNone v → RunsNone u → ((a c : ℕ) → Pending u a c → Pending v a c) → ((b d : ℕ) → u ≡ Starts b d → seq < d) → (Holds u → holder' ≡ Some x) → ((y : A) → y ≢ x → Holds (works y) → holder' ≡ Some y) →
+      AsksKept works' asks seq asked answered' → Part holder works words asks seq number asked answered awaited sections → Part holder' works' words asks seq number asked answered' awaited sections
+  part_set holder holder' works works' words asks seq number asked answered answered' awaited sections x v u is s from to less starts held others kept k = record {
+    asks_kept = kept;
+    grace_kept = grace_set plans layout slots laws decide holder holder' works works' seq number x u s (at_runs works x v is from) to starts held others k.grace_kept;
+    fenced = fenced_set plans layout slots laws decide works works' words seq awaited x u s (same_ask works x v u is less) to k.fenced;
+    awaited_open = k.awaited_open;
+  }
 
   pub part_locked : (works works' : A → Work P) (words : ℕ → ℕ) (asks seq number : ℕ) (asked answered : List ℕ) (awaited : ℕ → List SectionId) (sections : List SectionId) (x : A) (a c : ℕ) →
       works x ≡ Waits a c → Sets works works' x (Checks a c) → Part None works words asks seq number asked answered awaited sections → Part (Some x) works' words asks seq number asked answered awaited sections
-  part_locked works works' words asks seq number asked answered awaited sections x a c is s k = record {
-    asks_kept = asks_set plans layout slots laws decide works works' asks seq asked answered x (Checks a c) s (same_ask works x (Waits a c) (Checks a c) is (λ b d h. h)) k.asks_kept;
-    grace_kept = grace_set plans layout slots laws decide None (Some x) works works' seq number x (Checks a c) s (at_runs works x (Waits a c) is (waits_none a c)) (checks_runs a c)
-        (λ b d e. absurd (checks_starts a c b d e)) (λ _. refl) (λ y _ h. absurd (none_some y (k.grace_kept.held y h))) k.grace_kept;
-    fenced = fenced_set plans layout slots laws decide works works' words seq awaited x (Checks a c) s (same_ask works x (Waits a c) (Checks a c) is (λ b d h. h)) (checks_runs a c) k.fenced;
-    awaited_open = k.awaited_open;
-  }
-    where
-      none_some : (y : A) → None ≡ Some y → ⊥
-      none_some y e = cc
+  part_locked works works' words asks seq number asked answered awaited sections x a c is s k =
+      part_set None (Some x) works works' words asks seq number asked answered answered awaited sections x (Waits a c) (Checks a c) is s (λ b d p e. cc) (λ b d p e. cc) (λ b d h. h) (λ b d e. cc) (λ _. refl) (λ y _ h. cc (k.grace_kept.held y h))
+      (asks_set plans layout slots laws decide works works' asks seq asked answered x (Checks a c) s (same_ask works x (Waits a c) (Checks a c) is (λ b d h. h)) k.asks_kept) k
 
   -- the check answers
-  frees_runs : RunsNone {P = P} Frees
-  frees_runs a c p e = cc
-
-  frees_starts : StartsNone {P = P} Frees
-  frees_starts a c e = cc
-
   -- an ask whose cookie is reached awaits nobody
   pub reached_empty : (works : A → Work P) (words : ℕ → ℕ) (seq : ℕ) (awaited : ℕ → List SectionId) (x : A) (a c : ℕ) → Fenced plans layout slots laws decide works words seq awaited → Pending (works x) a c → c ≤ seq → awaited a ≡ []
   reached_empty works words seq awaited x a c f mine reached = empty_from (awaited a) (λ s h. let g = (f x a c s mine h).0 in omega (arith, g, reached))
 
   pub part_answered : (holder : Option A) (works works' : A → Work P) (words : ℕ → ℕ) (asks seq number : ℕ) (asked answered : List ℕ) (awaited : ℕ → List SectionId) (sections : List SectionId) (x : A) (a c : ℕ) →
       works x ≡ Checks a c → Sets works works' x Frees → Part holder works words asks seq number asked answered awaited sections → Part holder works' words asks seq number asked (a ∷ answered) awaited sections
-  part_answered holder works works' words asks seq number asked answered awaited sections x a c is s k = record {
-    asks_kept = asks_answered plans layout slots laws decide works works' asks seq x Frees a c asked answered s (λ b d h. h) (subst (λ (u : Work P). Pending u a c) (sym is) (refl, refl)) k.asks_kept;
-    grace_kept = grace_set plans layout slots laws decide holder holder works works' seq number x Frees s (at_runs works x (Checks a c) is (checks_runs a c)) frees_runs
-        (λ b d e. absurd (frees_starts b d e)) (λ _. k.grace_kept.held x (subst (λ (u : Work P). Holds u) (sym is) tt)) (λ y _ h. k.grace_kept.held y h) k.grace_kept;
-    fenced = fenced_set plans layout slots laws decide works works' words seq awaited x Frees s (λ b d h. absurd h) frees_runs k.fenced;
-    awaited_open = k.awaited_open;
-  }
+  part_answered holder works works' words asks seq number asked answered awaited sections x a c is s k =
+      part_set holder holder works works' words asks seq number asked answered (a ∷ answered) awaited sections x (Checks a c) Frees is s (λ b d p e. cc) (λ b d p e. cc) (λ b d h. absurd h) (λ b d e. cc)
+      (λ _. k.grace_kept.held x (holding (works x) (Checks a c) is tt)) (λ y _ h. k.grace_kept.held y h)
+      (asks_answered plans layout slots laws decide works works' asks seq x Frees a c asked answered s (λ b d h. h) (subst (λ (u : Work P). Pending u a c) (sym is) (refl, refl)) k.asks_kept) k
 
   -- a poll answers
-  rests_starts : StartsNone {P = P} Rests
-  rests_starts a c e = cc
-
   pub part_polled : (holder : Option A) (works works' : A → Work P) (words : ℕ → ℕ) (asks seq number : ℕ) (asked answered : List ℕ) (awaited : ℕ → List SectionId) (sections : List SectionId) (x : A) (a c : ℕ) →
       works x ≡ Waits a c → Sets works works' x Rests → Part holder works words asks seq number asked answered awaited sections → Part holder works' words asks seq number asked (a ∷ answered) awaited sections
-  part_polled holder works works' words asks seq number asked answered awaited sections x a c is s k = record {
-    asks_kept = asks_answered plans layout slots laws decide works works' asks seq x Rests a c asked answered s (λ b d h. h) (subst (λ (u : Work P). Pending u a c) (sym is) (refl, refl)) k.asks_kept;
-    grace_kept = grace_set plans layout slots laws decide holder holder works works' seq number x Rests s (at_runs works x (Waits a c) is (waits_none a c)) rests_runs
-        (λ b d e. absurd (rests_starts b d e)) (λ h. absurd h) (λ y _ h. k.grace_kept.held y h) k.grace_kept;
-    fenced = fenced_set plans layout slots laws decide works works' words seq awaited x Rests s (λ b d h. absurd h) rests_runs k.fenced;
-    awaited_open = k.awaited_open;
-  }
+  part_polled holder works works' words asks seq number asked answered awaited sections x a c is s k =
+      part_set holder holder works works' words asks seq number asked answered (a ∷ answered) awaited sections x (Waits a c) Rests is s (λ b d p e. cc) (λ b d p e. cc) (λ b d h. absurd h) (λ b d e. cc) (λ h. absurd h) (λ y _ h. k.grace_kept.held y h)
+      (asks_answered plans layout slots laws decide works works' asks seq x Rests a c asked answered s (λ b d h. h) (subst (λ (u : Work P). Pending u a c) (sym is) (refl, refl)) k.asks_kept) k
 
   -- the check finds that a grace period is needed
-  starts_runs : (a c : ℕ) → RunsNone {P = P} (Starts a c)
-  starts_runs a c b d p e = cc
-
   pub part_checked : (holder : Option A) (works works' : A → Work P) (words : ℕ → ℕ) (asks seq number : ℕ) (asked answered : List ℕ) (awaited : ℕ → List SectionId) (sections : List SectionId) (x : A) (a c : ℕ) →
       works x ≡ Checks a c → Sets works works' x (Starts a c) → seq < c → Part holder works words asks seq number asked answered awaited sections → Part holder works' words asks seq number asked answered awaited sections
-  part_checked holder works works' words asks seq number asked answered awaited sections x a c is s below k = record {
-    asks_kept = asks_set plans layout slots laws decide works works' asks seq asked answered x (Starts a c) s (same_ask works x (Checks a c) (Starts a c) is (λ b d h. h)) k.asks_kept;
-    grace_kept = grace_set plans layout slots laws decide holder holder works works' seq number x (Starts a c) s (at_runs works x (Checks a c) is (checks_runs a c)) (starts_runs a c)
-        (λ b d e. subst (λ n. seq < n) (starts_same b d e) below) (λ _. k.grace_kept.held x (subst (λ (u : Work P). Holds u) (sym is) tt)) (λ y _ h. k.grace_kept.held y h) k.grace_kept;
-    fenced = fenced_set plans layout slots laws decide works works' words seq awaited x (Starts a c) s (same_ask works x (Checks a c) (Starts a c) is (λ b d h. h)) (starts_runs a c) k.fenced;
-    awaited_open = k.awaited_open;
-  }
-    where
-      starts_same : (b d : ℕ) → (let w : Work P = Starts a c in w) ≡ Starts b d → c ≡ d
-      starts_same b d e = cc
+  part_checked holder works works' words asks seq number asked answered awaited sections x a c is s below k =
+      part_set holder holder works works' words asks seq number asked answered answered awaited sections x (Checks a c) (Starts a c) is s (λ b d p e. cc) (λ b d p e. cc) (λ b d h. h) (λ b d e. subst (λ n. seq < n) (cc) below)
+      (λ _. k.grace_kept.held x (holding (works x) (Checks a c) is tt)) (λ y _ h. k.grace_kept.held y h)
+      (asks_set plans layout slots laws decide works works' asks seq asked answered x (Starts a c) s (same_ask works x (Checks a c) (Starts a c) is (λ b d h. h)) k.asks_kept) k
 
   -- the lock is freed
   pub part_freed : (holder : Option A) (works works' : A → Work P) (words : ℕ → ℕ) (asks seq number : ℕ) (asked answered : List ℕ) (awaited : ℕ → List SectionId) (sections : List SectionId) (x : A) →
       works x ≡ Frees → Sets works works' x Rests → Part holder works words asks seq number asked answered awaited sections → Part None works' words asks seq number asked answered awaited sections
-  part_freed holder works works' words asks seq number asked answered awaited sections x is s k = record {
-    asks_kept = asks_set plans layout slots laws decide works works' asks seq asked answered x Rests s (λ a c h. absurd h) k.asks_kept;
-    grace_kept = grace_set plans layout slots laws decide holder None works works' seq number x Rests s (at_runs works x Frees is frees_runs) rests_runs
-        (λ a c e. absurd (rests_starts a c e)) (λ h. absurd h) (λ y ne h. absurd (ne (some_same y (sym (k.grace_kept.held y h) ∙ k.grace_kept.held x (subst (λ (u : Work P). Holds u) (sym is) tt))))) k.grace_kept;
-    fenced = fenced_set plans layout slots laws decide works works' words seq awaited x Rests s (λ a c h. absurd h) rests_runs k.fenced;
-    awaited_open = k.awaited_open;
-  }
-    where
-      rests_starts : StartsNone {P = P} Rests
-      rests_starts a c e = cc
-
-      some_same : (y : A) → Some y ≡ Some x → y ≡ x
-      some_same y e = cc
+  part_freed holder works works' words asks seq number asked answered awaited sections x is s k =
+      part_set holder None works works' words asks seq number asked answered answered awaited sections x Frees Rests is s (λ b d p e. cc) (λ b d p e. cc) (λ b d h. h) (λ b d e. cc) (λ h. absurd h)
+      (λ y ne h. absurd (ne (cc (k.grace_kept.held y h, k.grace_kept.held x (holding (works x) Frees is tt)))))
+      (asks_set plans layout slots laws decide works works' asks seq asked answered x Rests s (λ a c h. absurd h) k.asks_kept) k
 
   -- the turns of the plan: the lock's holder goes from one work to another that holds the lock, with the ask that it
   -- had
   runs_same : (a c b d : ℕ) (p q : P) → Runs a c p ≡ Runs b d q → (c ≡ d) × (p ≡ q)
   runs_same a c b d p q e = let one : c ≡ d = cc in let two : p ≡ q = cc in (one, two)
-
-  alone : (holder : Option A) (works : A → Work P) (seq number : ℕ) (x y : A) → GraceKept plans layout slots laws decide holder works seq number → Holds (works x) → Holds (works y) → y ≡ x
-  alone holder works seq number x y k mine theirs = some_same (sym (k.held y theirs) ∙ k.held x mine)
-    where
-      some_same : Some y ≡ Some x → y ≡ x
-      some_same e = cc
-
-  holding : (works : A → Work P) (x : A) (w : Work P) → works x ≡ w → Holds w → Holds (works x)
-  holding works x w is h = subst (λ (u : Work P). Holds u) (sym is) h
 
   grace_turn : (holder : Option A) (works works' : A → Work P) (seq seq' number number' : ℕ) (x : A) (a c : ℕ) (q : P) → Holds (works x) → Sets works works' x (Runs a c q) → Running plans layout slots laws seq' number' c q →
       (plans.qsbr ≡ true → number' ≤ seq') → GraceKept plans layout slots laws decide holder works seq number → GraceKept plans layout slots laws decide holder works' seq' number'
@@ -169,34 +115,28 @@ module _ {P : Type 0} (plans : Plans P) (layout : Layout) (slots : ℕ) (laws : 
         (λ (n : (y ≢ x) × Holds (works y)). k.held y n.1)
         (set_cases decide works works' x (Runs a c q) s (λ (u : Work P). Holds u) y h);
     starts = λ y b d e. ⊎_elim
-        (λ (i : (y ≡ x) × (Runs a c q ≡ Starts b d)). absurd (runs_starts b d i.1))
-        (λ (n : (y ≢ x) × (works y ≡ Starts b d)). absurd (n.0 (alone holder works seq number x y k mine (holding works y (Starts b d) n.1 tt))))
+        (λ (i : (y ≡ x) × (Runs a c q ≡ Starts b d)). cc i.1)
+        (λ (n : (y ≢ x) × (works y ≡ Starts b d)). absurd (n.0 (only_holder plans layout slots laws decide holder works seq number x y k mine (holding (works y) (Starts b d) n.1 tt))))
         (set_cases decide works works' x (Runs a c q) s (λ (u : Work P). u ≡ Starts b d) y e);
     running = λ y b d p e. ⊎_elim
         (λ (i : (y ≡ x) × (Runs a c q ≡ Runs b d p)). let t = runs_same a c b d q p i.1 in subst (λ n. Running plans layout slots laws seq' number' n p) t.0 (subst (Running plans layout slots laws seq' number' c) t.1 r))
-        (λ (n : (y ≢ x) × (works y ≡ Runs b d p)). absurd (n.0 (alone holder works seq number x y k mine (holding works y (Runs b d p) n.1 tt))))
+        (λ (n : (y ≢ x) × (works y ≡ Runs b d p)). absurd (n.0 (only_holder plans layout slots laws decide holder works seq number x y k mine (holding (works y) (Runs b d p) n.1 tt))))
         (set_cases decide works works' x (Runs a c q) s (λ (u : Work P). u ≡ Runs b d p) y e);
     even = λ none. absurd (none x a c q s.here);
     number_low = low;
   }
-    where
-      runs_starts : (b d : ℕ) → Runs a c q ≡ Starts b d → ⊥
-      runs_starts b d e = cc
 
   fenced_turn : (holder : Option A) (works works' : A → Work P) (words : ℕ → ℕ) (seq seq' number : ℕ) (awaited : ℕ → List SectionId) (x : A) (a c : ℕ) (q : P) → Holds (works x) → ((b d : ℕ) → Pending (Runs a c q) b d → Pending (works x) b d) →
       Sets works works' x (Runs a c q) → GraceKept plans layout slots laws decide holder works seq number →
       ((y : A) (b d : ℕ) (s : SectionId) → Pending (works y) b d → In (awaited b) s → (seq' < d) × (d ≤ seq' + 1 → Old plans layout slots laws q s words)) →
       Fenced plans layout slots laws decide works' words seq' awaited
   fenced_turn holder works works' words seq seq' number awaited x a c q mine same s k f y b d t pending has =
-      let was : Pending (works y) b d = ⊎_elim
-      (λ (e : (y ≡ x) × Pending (Runs a c q) b d). subst (λ z. Pending (works z) b d) (sym e.0) (same b d e.1))
-      (λ (n : (y ≢ x) × Pending (works y) b d). n.1)
-      (set_cases decide works works' x (Runs a c q) s (λ (u : Work P). Pending u b d) y pending) in
+      let was = pending_was plans layout slots laws decide works works' x (Runs a c q) s same y b d pending in
       let g = f y b d t was has in (
         g.0,
         λ z b' d' p run low. ⊎_elim
             (λ (i : (z ≡ x) × (Runs a c q ≡ Runs b' d' p)). subst (λ u. Old plans layout slots laws u t words) (runs_same a c b' d' q p i.1).1 (g.1 low))
-            (λ (n : (z ≢ x) × (works z ≡ Runs b' d' p)). absurd (n.0 (alone holder works seq number x z k mine (holding works z (Runs b' d' p) n.1 tt))))
+            (λ (n : (z ≢ x) × (works z ≡ Runs b' d' p)). absurd (n.0 (only_holder plans layout slots laws decide holder works seq number x z k mine (holding (works z) (Runs b' d' p) n.1 tt))))
             (set_cases decide works works' x (Runs a c q) s (λ (u : Work P). u ≡ Runs b' d' p) z run),
       )
 
@@ -243,7 +183,7 @@ module _ {P : Type 0} (plans : Plans P) (layout : Layout) (slots : ℕ) (laws : 
   }
     where
       mine : Holds (works x)
-      mine = holding works x (Runs a c p) is tt
+      mine = holding (works x) (Runs a c p) is tt
 
       same : (b d : ℕ) → Pending (Runs a c (plans.taken p loaded)) b d → Pending (works x) b d
       same = same_ask works x (Runs a c p) (Runs a c (plans.taken p loaded)) is (λ b d h. h)
@@ -271,31 +211,19 @@ module _ {P : Type 0} (plans : Plans P) (layout : Layout) (slots : ℕ) (laws : 
       taken = plans.taken p 0
 
       mine : Holds (works x)
-      mine = holding works x (Starts a c) is tt
+      mine = holding (works x) (Starts a c) is tt
 
       same : (b d : ℕ) → Pending (Runs a c taken) b d → Pending (works x) b d
       same = same_ask works x (Starts a c) (Runs a c taken) is (λ b d h. h)
 
       even : seq % 2 ≡ 0
-      even = even_at plans layout slots laws decide holder works seq number x k.grace_kept mine (at_runs works x (Starts a c) is (starts_runs a c))
+      even = even_at plans layout slots laws decide holder works seq number x k.grace_kept mine (at_runs works x (Starts a c) is (λ b d p e. cc))
 
       order : StoresInOrder plans.action plans.taken seq p
       order = laws.all.keeps.order seq number p (laws.all.made seq number)
 
-      first_finished : StoreSeq (seq + 1) ≡ Finished → ⊥
-      first_finished e = cc
-
       first_second : StoreSeq (seq + 1) ≡ StoreSeq (seq + 2) → ⊥
       first_second e = let same : seq + 1 ≡ seq + 2 = cc in omega (arith, same)
-
-      first_load : (slot : ℕ) → StoreSeq (seq + 1) ≡ Load slot → ⊥
-      first_load slot e = cc
-
-      mine_pending : Pending (works x) a c
-      mine_pending = subst (λ (u : Work P). Pending u a c) (sym is) (refl, refl)
-
-      cookie : c ≡ seq + 2
-      cookie = let q = k.asks_kept.pending x a c mine_pending in let l = k.grace_kept.starts x a c is in omega (arith, q.2, q.3, l, even)
 
       running : Running plans layout slots laws (seq + 1) number c taken
       running = record {
@@ -309,8 +237,8 @@ module _ {P : Type 0} (plans : Plans P) (layout : Layout) (slots : ℕ) (laws : 
         is = refl;
         even = even;
         odd = refl;
-        goes_on = λ e. first_second (sym order.first ∙ (order.last [] 0 (λ f. first_finished (sym order.first ∙ f))).0 e);
-        cookie = cookie;
+        goes_on = λ e. first_second (sym order.first ∙ (order.last [] 0 (λ f. cc (sym order.first ∙ f))).0 e);
+        cookie = let q = k.asks_kept.pending x a c (subst (λ (u : Work P). Pending u a c) (sym is) (refl, refl)) in let l = k.grace_kept.starts x a c is in omega (arith, q.2, q.3, l, even);
         present = laws.all.keeps.presents p 0 ∙ ap (present_after (laws.present p)) order.first ∙ laws.all.keeps.begins seq number p (laws.all.made seq number) now;
         low = λ q. let l = k.grace_kept.number_low q in (l, omega (arith, l));
       }
@@ -322,7 +250,7 @@ module _ {P : Type 0} (plans : Plans P) (layout : Layout) (slots : ℕ) (laws : 
             slot_turn plans layout slots laws p t.reader m.1.0 0
                 (may_begin plans.qsbr plans.action plans.taken layout laws.begun seq number p t.reader m.1.0 (laws.all.made seq number) m.1.2)
                 (laws.all.loads_no_group seq number p (laws.all.made seq number) [])
-                (λ l. absurd (first_load t.reader (sym order.first ∙ l))),
+                (λ l. cc (sym order.first ∙ l)),
             m.1.1,
           )
 
@@ -340,8 +268,8 @@ module _ {P : Type 0} (plans : Plans P) (layout : Layout) (slots : ℕ) (laws : 
             (λ (n : (y ≢ x) × Holds (works y)). k.grace_kept.held y n.1)
             (set_cases decide works works' x Frees s (λ (u : Work P). Holds u) y h);
         starts = λ y b d e. absurd (⊎_elim
-            (λ (i : (y ≡ x) × (Frees ≡ Starts b d)). frees_starts b d i.1)
-            (λ (n : (y ≢ x) × (works y ≡ Starts b d)). n.0 (alone holder works seq number x y k.grace_kept mine (holding works y (Starts b d) n.1 tt)))
+            (λ (i : (y ≡ x) × (Frees ≡ Starts b d)). cc i.1)
+            (λ (n : (y ≢ x) × (works y ≡ Starts b d)). n.0 (only_holder plans layout slots laws decide holder works seq number x y k.grace_kept mine (holding (works y) (Starts b d) n.1 tt)))
             (set_cases decide works works' x Frees s (λ (u : Work P). u ≡ Starts b d) y e));
         running = λ y b d q e. absurd (runs_none y b d q e);
         even = λ none. omega (arith, which, r.even);
@@ -357,18 +285,15 @@ module _ {P : Type 0} (plans : Plans P) (layout : Layout) (slots : ℕ) (laws : 
       r = k.grace_kept.running x a c p is
 
       mine : Holds (works x)
-      mine = holding works x (Runs a c p) is tt
+      mine = holding (works x) (Runs a c p) is tt
 
       pending : Pending (works x) a c
       pending = subst (λ (u : Work P). Pending u a c) (sym is) (refl, refl)
 
-      same_value : (v : ℕ) → StoreSeq value ≡ StoreSeq v → value ≡ v
-      same_value v e = cc
-
       which : value ≡ r.from + 2
       which =
           let l = (laws.all.keeps.order r.from r.word r.plan r.begun).last (r.load ∷ r.loads) 0 (λ f. r.goes_on (ap plans.action r.is ∙ f)) in
-          same_value (r.from + 2) (sym stores ∙ ap plans.action r.is ∙ l.0 (ap (λ q. plans.action (plans.taken q 0)) (sym r.is) ∙ done))
+          cc (sym stores ∙ ap plans.action r.is ∙ l.0 (ap (λ q. plans.action (plans.taken q 0)) (sym r.is) ∙ done))
 
       was : (y : A) (b d : ℕ) → Pending (works' y) b d → Pending (works y) b d
       was y b d h =
@@ -380,12 +305,9 @@ module _ {P : Type 0} (plans : Plans P) (layout : Layout) (slots : ℕ) (laws : 
       runs_none : (y : A) (b d : ℕ) (q : P) → works' y ≡ Runs b d q → ⊥
       runs_none y b d q e =
           ⊎_elim
-          (λ (i : (y ≡ x) × (Frees ≡ Runs b d q)). frees_runs b d q i.1)
-          (λ (n : (y ≢ x) × (works y ≡ Runs b d q)). n.0 (alone holder works seq number x y k.grace_kept mine (holding works y (Runs b d q) n.1 tt)))
+          (λ (i : (y ≡ x) × (Frees ≡ Runs b d q)). cc i.1)
+          (λ (n : (y ≢ x) × (works y ≡ Runs b d q)). n.0 (only_holder plans layout slots laws decide holder works seq number x y k.grace_kept mine (holding (works y) (Runs b d q) n.1 tt)))
           (set_cases decide works works' x Frees s (λ (u : Work P). u ≡ Runs b d q) y e)
-
-      store_load : (slot : ℕ) → StoreSeq value ≡ Load slot → ⊥
-      store_load slot e = cc
 
       -- whoever awaits a section has a cookie above
       fence : (y : A) (b d : ℕ) (t : SectionId) → Pending (works y) b d → In (awaited b) t → value < d
@@ -394,6 +316,6 @@ module _ {P : Type 0} (plans : Plans P) (layout : Layout) (slots : ℕ) (laws : 
           (λ (l : (leb d (seq + 1) ≡ true) × (d ≤ seq + 1)).
           let o = (k.fenced y b d t waits has).1 x a c p is l.1 in
           absurd (never_finished plans.qsbr plans.action plans.taken layout laws.begun slots laws.all.keeps.waits (plans.taken p 0) t.reader o.0 (marks t (k.awaited_open b t has)).0
-          (slot_turn plans layout slots laws p t.reader o.0 0 o.1 (runs_no_group plans layout slots laws seq number c p r) (λ e. absurd (store_load t.reader (sym stores ∙ e)))) done))
+          (slot_turn plans layout slots laws p t.reader o.0 0 o.1 (runs_no_group plans layout slots laws seq number c p r) (λ e. cc (sym stores ∙ e))) done))
           (λ (m : (leb d (seq + 1) ≡ false) × (seq + 1 < d)). let q = k.asks_kept.pending y b d waits in let up = m.1 in omega (arith, up, q.3, r.odd, r.even, which))
           (leb_tells d (seq + 1))

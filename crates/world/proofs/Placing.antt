@@ -10,7 +10,7 @@ use Rattle.world.specs.Grace.{grace_row}
 use Rattle.world.specs.Queues.{retire_on}
 use Rattle.world.specs.Workers.{ask_for}
 use Rattle.world.proofs.GraceRows.{tells}
-use Rattle.world.proofs.Rows.{ReaderRows, IsPublishing, IsWaiting, IsUpdate, any_updates, Law}
+use Rattle.world.proofs.Rows.{Copies, Nests, Unnests, Announces, Firsts, ReaderRows, IsPublishing, IsWaiting, IsUpdate, any_updates, Law}
 
 -- the reader, the chain or the queue of the event is below the limit of a config
 abbrev pub IsPlaced : Event → Type 0
@@ -39,19 +39,12 @@ module _ {P : Type 0} (plans : Plans P) (w : BoardView P) where
   -- ---- readers
 
   placed_reads : length w.heads ≤ 64 → (r : ℕ) (v : ReaderState) → r < 64 → ReaderRows plans.qsbr w.layout w r v (λ step. Every IsPlaced (told step.answer))
-  placed_reads few r v inside = record {
-    copies = λ none zero. tt;
-    nests = λ word none flavour more is. tt;
-    unnests = λ word none flavour is more. tt;
-    unlocks = λ word none flavour is zero. (inside, tt);
-    leaves = λ none flavour online. (inside, tt);
-    enters = λ copied word has flavour is. (inside, tt);
-    goes_online = λ copied has flavour offline. (inside, tt);
-    announces = λ copied has flavour online. (inside, (inside, tt));
-    firsts = λ c head none open' is. let there : c < length w.heads = slice_get_within w.heads c head is in ((inside, omega (arith, there, few)), tt);
-    nexts = λ o x none open' from is. (inside, tt);
-    touches = λ o none open' from. (inside, tt);
-  }
+  placed_reads few r v inside _ (Copies none zero) = tt
+  placed_reads few r v inside _ (Nests word none flavour more is) = tt
+  placed_reads few r v inside _ (Unnests word none flavour is more) = tt
+  placed_reads few r v inside _ (Announces copied has flavour online) = (inside, (inside, tt))
+  placed_reads few r v inside _ (Firsts c head none open' is) = let there : c < length w.heads = slice_get_within w.heads c head is in ((inside, omega (arith, there, few)), tt)
+  placed_reads few r v inside _ _ = (inside, tt)
 
   -- ---- the rows
 

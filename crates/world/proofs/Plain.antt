@@ -1,13 +1,14 @@
 -- What lines that retire nothing, await no barrier and are no worker's keep of callbacks.
-use Rattle.world.proofs.Cited.{◌≡◌, inr, ℕ, ◌%◌, ◌<◌, ◌≤◌, Bool, List, [], ◌∷◌, ◌++◌, length, slice_set, Some, None, Result, Ok, Err, refl, sym, ap, ◌∙◌, subst, arith, length-append, length-set, Event, ObjectId, SectionId, WorkerState, Refusal, State, after, AreAllowed, after_all, In, Layout, given_of, Life, ObjectState, QueueState, ReaderState, RetireStep, UpdaterPlace, Retires, Bars, UpdaterState, Change, Read, Begin, Publish, Grace, Stay, spliced_objects, Plans, BoardView, told, changed, stage_of, chain_of, within, grown_same, spliced_chain, stage_grown, life_of, life_within, life_grown, life_spliced, queue_at}
+use Rattle.world.proofs.Cited.{◌≡◌, inr, ℕ, ◌%◌, ◌<◌, ◌≤◌, Bool, List, [], ◌∷◌, ◌++◌, length, slice_set, None, Result, Ok, Err, refl, sym, ap, ◌∙◌, subst, arith, length-set, Event, ObjectId, SectionId, WorkerState, Refusal, State, after, AreAllowed, after_all, In, Layout, given_of, Life, ObjectState, QueueState, ReaderState, RetireStep, UpdaterPlace, Retires, Bars, UpdaterState, Change, Read, Begin, Publish, Grace, Stay, spliced_objects, Plans, BoardView, told, changed, stage_of, chain_of, within, grown_same, spliced_chain, stage_grown, life_of, life_within, life_grown, life_spliced, queue_at}
 use Rattle.rcu_model.specs.declared.event.Event.TheVariants as events
 use Rattle.world_state.specs.declared.object.Life.TheVariants as life
 use Rattle.world_state.specs.declared.object.Stage.TheVariants as stage
 use Rattle.world_state.specs.declared.updater.RetireStep.TheVariants as due
 use Rattle.world.proofs.Fence.{Laws}
-use Rattle.world.proofs.Rows.{ReaderRows}
-use Rattle.world.proofs.State.{updater_at, told_by, Kept, Owes}
-use Rattle.world.proofs.Callbacks.{LifeKept, DueKept, RetireKept, BarKept, Barring, CallbacksKept, Callbacks, at_updaters, queue_kept, IsOther, over_event}
+use Rattle.world.proofs.Rows.{Copies, Nests, Unnests, Announces, ReaderRows}
+use Rattle.world.proofs.State.{updater_at, told_by, Kept, Owes, at_updaters}
+use Rattle.world.proofs.KeptReaders.{longer}
+use Rattle.world.proofs.Callbacks.{LifeKept, DueKept, RetireKept, BarKept, Barring, CallbacksKept, Callbacks, queue_kept, numbers_over, IsOther, over_event}
 
 -- the updater neither retires nor waits for all
 abbrev pub IsPlain : {P : Type 0} → UpdaterPlace P → Type 0
@@ -44,19 +45,13 @@ due_over : (os os' : List ObjectState) (reserved : Bool) (queued given count u :
     ((p : ObjectId) → stage_of os p ≡ stage.Cut → stage_of os' p ≡ stage.Cut) → DueKept os reserved queued given count u o d → DueKept os' reserved queued given count u o d
 due_over os os' reserved queued given count u o d lives chains cuts h = by d h
   where
-    retired_kept : life.Retired ≡ life.Kept → ⊥
-    retired_kept e = cc
-
-    cut_fresh : stage.Cut ≡ stage.Fresh → ⊥
-    cut_fresh e = cc
-
     home : o.0 < length os → chain_of os o % count ≡ u → chain_of os' o % count ≡ u
     home inside e = ap (λ c. c % count) (chains o inside) ∙ e
 
     by : (d : RetireStep) → DueKept os reserved queued given count u o d → DueKept os' reserved queued given count u o d
-    by due.Mark h = (cuts o h.0, lives o ∙ h.1, home (within os o (λ e. cut_fresh (sym h.0 ∙ e))) h.2, h.3, h.4)
-    by due.Count h = (lives o ∙ h.0, home (life_within os o (λ e. retired_kept (sym h.0 ∙ e))) h.1, h.2, h.3)
-    by due.Push h = (lives o ∙ h.0, home (life_within os o (λ e. retired_kept (sym h.0 ∙ e))) h.1, h.2, h.3)
+    by due.Mark h = (cuts o h.0, lives o ∙ h.1, home (within os o (λ e. cc (sym h.0 ∙ e))) h.2, h.3, h.4)
+    by due.Count h = (lives o ∙ h.0, home (life_within os o (λ e. cc (sym h.0 ∙ e))) h.1, h.2, h.3)
+    by due.Push h = (lives o ∙ h.0, home (life_within os o (λ e. cc (sym h.0 ∙ e))) h.1, h.2, h.3)
     by due.Free h = h
 
 pub retire_over : {P : Type 0} (os os' : List ObjectState) (qs : List QueueState) (count u : ℕ) (p : UpdaterPlace P) → ((p : ObjectId) → life_of os' p ≡ life_of os p) → ((p : ObjectId) → p.0 < length os → chain_of os' p ≡ chain_of os p) →
@@ -69,17 +64,15 @@ module _ {P : Type 0} (w : BoardView P) (now : State) (k : Callbacks w now) wher
   over_table : (os' : List ObjectState) (u : ℕ) (x : UpdaterState P) (logged' : ℕ) → u < length w.updaters → IsPlain x.place → length w.log ≤ logged' →
       ((o : ObjectId) → life_of os' o ≡ life_of w.objects o) → ((o : ObjectId) → o.0 < length w.objects → chain_of os' o ≡ chain_of w.objects o) → ((o : ObjectId) → stage_of w.objects o ≡ stage.Cut → stage_of os' o ≡ stage.Cut) →
       CallbacksKept os' w.queues (slice_set w.updaters u x) w.workers w.barriers logged' now.sections now.retired now.queued now.reclaimed now.awaited now.asked now.asked_sections now.noted now.cleared now.noted_objects
-  over_table os' u x logged' inside plain longer lives chains cuts = record {
-    some = k.some;
-    few = k.few;
-    manned = k.manned;
+  over_table os' u x logged' inside plain more lives chains cuts = record {
+    sizes = k.sizes;
     items = record {
       lives = λ o. subst (λ (l : Life). LifeKept l o now.retired now.queued now.reclaimed) (sym (lives o)) (k.items.lives o);
       found = λ o e. k.items.found o (sym (lives o) ∙ e);
       there = λ j t o h. lives o ∙ k.items.there j t o h;
       one_place = k.items.one_place;
     };
-    queues = λ j. queue_kept (queue_at w.queues j) (length w.log) logged' now.awaited now.awaited longer (λ o e. e) (k.queues j);
+    queues = λ j. queue_kept (queue_at w.queues j) (length w.log) logged' now.awaited now.awaited more (λ o e. e) (k.queues j);
     awaits_open = k.awaits_open;
     retiring = subst (λ n. (v : ℕ) → RetireKept os' w.queues n v (updater_at (slice_set w.updaters u x) v).place) (sym (length-set w.updaters u x))
         (at_updaters (λ v y. RetireKept os' w.queues (length w.updaters) v y.place) w.updaters u x inside (plain_retire os' w.queues (length w.updaters) u x.place plain)
@@ -87,9 +80,7 @@ module _ {P : Type 0} (w : BoardView P) (now : State) (k : Callbacks w now) wher
     working = k.working;
     barring = at_updaters (λ v y. BarKept w.queues now.noted now.cleared now.noted_objects y.place) w.updaters u x inside (plain_bar w.queues now.noted now.cleared now.noted_objects x.place plain) (λ v apart. k.barring v);
     one_barrier = one_barrier_set w.updaters u x inside (λ n. plain_none x.place n plain) k.one_barrier;
-    noted_low = k.noted_low;
-    cleared_noted = k.cleared_noted;
-    barriers_low = let low = k.barriers_low in omega (arith, low, longer);
+    numbers = numbers_over more k.numbers;
   }
 
 -- more is logged
@@ -97,20 +88,16 @@ pub logged_more : {P : Type 0} {os : List ObjectState} {qs : List QueueState} {u
     {sections : List SectionId} {retired queued reclaimed : List ObjectId} {awaited : ObjectId → List SectionId} {asked : List ℕ} {asked_sections : ℕ → List SectionId} {noted cleared : List ℕ} {noted_objects : ℕ → List ObjectId}
     (logged' : ℕ) → logged ≤ logged' → CallbacksKept os qs updaters workers barriers logged sections retired queued reclaimed awaited asked asked_sections noted cleared noted_objects →
     CallbacksKept os qs updaters workers barriers logged' sections retired queued reclaimed awaited asked asked_sections noted cleared noted_objects
-logged_more {qs = qs} {logged = logged} {awaited = awaited} logged' longer k = record {
-  some = k.some;
-  few = k.few;
-  manned = k.manned;
+logged_more {qs = qs} {logged = logged} {awaited = awaited} logged' more k = record {
+  sizes = k.sizes;
   items = k.items;
-  queues = λ j. queue_kept (queue_at qs j) logged logged' awaited awaited longer (λ o e. e) (k.queues j);
+  queues = λ j. queue_kept (queue_at qs j) logged logged' awaited awaited more (λ o e. e) (k.queues j);
   awaits_open = k.awaits_open;
   retiring = k.retiring;
   working = k.working;
   barring = k.barring;
   one_barrier = k.one_barrier;
-  noted_low = k.noted_low;
-  cleared_noted = k.cleared_noted;
-  barriers_low = let low = k.barriers_low in omega (arith, low, longer);
+  numbers = numbers_over more k.numbers;
 }
 
 abbrev pub AreOther : List Event → Type 0
@@ -119,19 +106,11 @@ AreOther (e ∷ es) = IsOther e × AreOther es
 
 -- a reader's step tells of no queue and no barrier
 pub other_reads : {P : Type 0} (qsbr : Bool) (layout : Layout) (w : BoardView P) (r : ℕ) (v : ReaderState) → ReaderRows qsbr layout w r v (λ step. AreOther (told step.answer))
-other_reads qsbr layout w r v = record {
-  copies = λ none zero. tt;
-  nests = λ word none flavour more is. tt;
-  unnests = λ word none flavour is more. tt;
-  unlocks = λ word none flavour is zero. (tt, tt);
-  leaves = λ none flavour online. (tt, tt);
-  enters = λ copied word has flavour is. (tt, tt);
-  goes_online = λ copied has flavour offline. (tt, tt);
-  announces = λ copied has flavour online. (tt, (tt, tt));
-  firsts = λ c head none open' is. (tt, tt);
-  nexts = λ o x none open' from is. (tt, tt);
-  touches = λ o none open' from. (tt, tt);
-}
+other_reads qsbr layout w r v _ (Copies none zero) = tt
+other_reads qsbr layout w r v _ (Nests word none flavour more is) = tt
+other_reads qsbr layout w r v _ (Unnests word none flavour is more) = tt
+other_reads qsbr layout w r v _ (Announces copied has flavour online) = (tt, (tt, tt))
+other_reads qsbr layout w r v _ _ = (tt, tt)
 
 over_events : {P : Type 0} (w : BoardView P) (now : State) (es : List Event) → AreOther es → AreAllowed now es → Callbacks w now → Callbacks w (after_all now es)
 over_events w now [] is allowed k = k
@@ -142,9 +121,7 @@ cut_grows : (now : State) (e : Event) (o : ObjectId) → In now.cut o → In (af
 cut_grows now (events.Replace c p q) o h = inr h
 cut_grows now (events.Cut c p) o h = inr h
 cut_grows now (events.First s c None) o h = h
-cut_grows now (events.First s c (Some p)) o h = h
 cut_grows now (events.Next s p None) o h = h
-cut_grows now (events.Next s p (Some q)) o h = h
 cut_grows now _ o h = h
 
 -- changes that callbacks do not notice
@@ -162,11 +139,8 @@ module _ {P : Type 0} (plans : Plans P) (layout : Layout) (slots : ℕ) (laws : 
   OwesAll (Err e) = Unit {0}
   OwesAll (Ok change) = AreAllowed now (told_by change) × Kept plans layout slots laws (changed w change) (after_all now (told_by change)) × Callbacks (changed w change) (after_all now (told_by change))
 
-  longer : (es : List Event) → length w.log ≤ length (w.log ++ es)
-  longer es = omega (arith, length-append w.log es)
-
   pub plainly : (change : Change P) → PlainChange w change → Owes plans layout slots laws w now (Ok change) → OwesAll (Ok change)
-  plainly (Read r step) is owed = (owed.0, owed.1, logged_more (length (w.log ++ told step.answer)) (longer (told step.answer)) (over_events w now (told step.answer) is owed.0 k))
+  plainly (Read r step) is owed = (owed.0, owed.1, logged_more (length (w.log ++ told step.answer)) (longer w.log (told step.answer)) (over_events w now (told step.answer) is owed.0 k))
   plainly (Begin u x y) is owed = (
     owed.0,
     owed.1,
@@ -176,13 +150,13 @@ module _ {P : Type 0} (plans : Plans P) (layout : Layout) (slots : ℕ) (laws : 
   plainly (Publish u x s e) is owed = (
     owed.0,
     owed.1,
-    over_table w (after now e) (over_event w now k e is.2 owed.0.0) (spliced_objects w.objects s) u x (length (w.log ++ e ∷ [])) is.0 is.1 (longer (e ∷ [])) (life_spliced w.objects s)
+    over_table w (after now e) (over_event w now k e is.2 owed.0.0) (spliced_objects w.objects s) u x (length (w.log ++ e ∷ [])) is.0 is.1 (longer w.log (e ∷ [])) (life_spliced w.objects s)
         (λ o inside. spliced_chain w.objects s o) (λ o was. (owed.1.links_kept.was_cut o (cut_grows now e o (kept.links_kept.cuts o was))).0),
   )
   plainly (Grace u x grace answer) is owed = (
     owed.0,
     owed.1,
-    over_table w (after_all now (told answer)) (over_events w now (told answer) is.2 owed.0 k) w.objects u x (length (w.log ++ told answer)) is.0 is.1 (longer (told answer)) (λ o. refl) (λ o inside. refl) (λ o e. e),
+    over_table w (after_all now (told answer)) (over_events w now (told answer) is.2 owed.0 k) w.objects u x (length (w.log ++ told answer)) is.0 is.1 (longer w.log (told answer)) (λ o. refl) (λ o inside. refl) (λ o e. e),
   )
   plainly (Stay answer) is owed = (owed.0, owed.1, k)
   plainly _ is owed = absurd is

@@ -3,23 +3,12 @@ use Rattle.world.proofs.Cited.{ℕ, Bool, Result, Ok, Err, subst, IfOk, Refusal,
 use Rattle.world.specs.Lines.{change_of, with_change, outcome_of}
 use Rattle.world.specs.Shown.{Meets}
 use Rattle.world.specs.Steps.{IsOfReader, IsPrompt}
-use Rattle.world.proofs.Rows.{ReaderRows, reads_by, any_updates, any_works, Each, Law, by_law}
+use Rattle.world.proofs.Rows.{Copies, ReaderRows, any_updates, any_works, Each, Law, by_law}
 
 -- a reader's step
 pub prompt_reads : {P : Type 0} (qsbr : Bool) (layout : Layout) (w : BoardView P) (r : ℕ) (v : ReaderState) → ReaderRows qsbr layout w r v (λ step. IsPrompt step.answer)
-prompt_reads qsbr layout w r v = record {
-  copies = λ none zero. tt;
-  nests = λ word none flavour more is. tt;
-  unnests = λ word none flavour is more. tt;
-  unlocks = λ word none flavour is zero. tt;
-  leaves = λ none flavour online. tt;
-  enters = λ copied word has flavour is. tt;
-  goes_online = λ copied has flavour offline. tt;
-  announces = λ copied has flavour online. tt;
-  firsts = λ c head none open' is. tt;
-  nexts = λ o x none open' from is. tt;
-  touches = λ o none open' from. tt;
-}
+prompt_reads qsbr layout w r v _ (Copies none zero) = tt
+prompt_reads qsbr layout w r v _ _ = tt
 
 module _ {P : Type 0} (plans : Plans P) (w : BoardView P) where
   abbrev Prompt : Line → Change P → Type 0
@@ -28,7 +17,7 @@ module _ {P : Type 0} (plans : Plans P) (w : BoardView P) where
   prompt : Law plans w Prompt
   prompt = record {
     stays = λ line answer never none of. absurd (never of);
-    reads = λ r v verb was. reads_by plans.qsbr w.layout w r v (λ step. IsPrompt step.answer) (λ step. Unit {0} → IsPrompt step.answer) (λ step is of. is) (prompt_reads plans.qsbr w.layout w r v);
+    reads = λ r v verb was step row of. prompt_reads plans.qsbr w.layout w r v step row;
     updates = λ u x was. any_updates plans w u x (λ v. Prompt (Updater u v)) (λ v change is of. absurd of) (λ o step at of. absurd of);
     works = λ k x was. any_works plans w k x (λ v. Prompt (Worker k v)) (λ v y grace act mark answer of. absurd of);
   }

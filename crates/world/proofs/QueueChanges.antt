@@ -2,7 +2,7 @@
 use Rattle.world.proofs.Cited.{◌≡◌, ◌≢◌, ◌⊎◌, inl, inr, ℕ, ◌%◌, ◌<◌, ◌≤◌, Bool, List, length, slice_get, Some, sym, ap, ◌∙◌, subst, ObjectId, items_of, given_of, Mark, ObjectState, QueueState, BarrierStep, RetireStep, UpdaterPlace, Retires, Bars, marked_life, changed_at, chain_of, decide_number, life_of, life_else, stage_marked, chain_marked, Stands, InQueue, queue_at, changed_here, changed_else, changed_length, In}
 use Rattle.world_state.specs.declared.object.Life.TheVariants as life
 use Rattle.world_state.specs.declared.updater.RetireStep.TheVariants as due
-use Rattle.world.proofs.Callbacks.{ItemsKept, DueKept, Retiring, RetireKept, Faces, IsAt, BarKept, at_queues}
+use Rattle.world.proofs.Callbacks.{Found, ItemsKept, DueKept, Retiring, RetireKept, Faces, IsAt, BarKept, at_queues}
 
 -- a header that is stored is none that another updater's retirement looks at
 pub due_marked : (os : List ObjectState) (m : Mark) (reserved : Bool) (queued given count v : ℕ) (o : ObjectId) (d : RetireStep) →
@@ -33,6 +33,10 @@ pub retire_marked : {P : Type 0} (os : List ObjectState) (m : Mark) (qs : List Q
 retire_marked os m qs count v (Retires o d) apart h =
     (h.0, due_marked os m (queue_at qs (v % length qs)).items.reserved (queue_at qs (v % length qs)).queued (given_of (queue_at qs (v % length qs)).items) count v o d (apart o) h.1)
 retire_marked os m qs count v _ apart h = tt
+
+-- who stands in a queue stands in one of others, where each place is kept
+pub found_over : (qs qs' : List QueueState) (o : ObjectId) → length qs' ≡ length qs → ((j t : ℕ) → InQueue (queue_at qs j) t o → InQueue (queue_at qs' j) t o) → Found qs o → Found qs' o
+found_over qs qs' o same stays (j, t, low, here) = (j, t, subst (λ n. j < n) (sym same) low, stays j t here)
 
 -- a barrier over other queues, in which each object that it waits for keeps its place
 pub faces_over : (qs qs' : List QueueState) (counts : List ℕ) (d : BarrierStep) (o : ObjectId) → length qs' ≡ length qs → ((j t : ℕ) → InQueue (queue_at qs j) t o → InQueue (queue_at qs' j) t o) → Faces qs counts d o → Faces qs' counts d o
@@ -104,10 +108,7 @@ module _ (qs : List QueueState) (j : ℕ) (f : QueueState → QueueState) (insid
     pub items_stay : (os : List ObjectState) (retired queued reclaimed : List ObjectId) → ItemsKept os qs retired queued reclaimed → ItemsKept os qs' retired queued reclaimed
     items_stay os retired queued reclaimed k = record {
       lives = k.lives;
-      found = λ o e. found o (k.found o e);
+      found = λ o e. found_over qs qs' o (changed_length f qs j) (λ i t. stays i t o) (k.found o e);
       there = λ i t o h. k.there i t o (was_there i t o h);
       one_place = λ a b s t o g h. k.one_place a b s t o (was_there a s o g) (was_there b t o h);
     }
-      where
-        found : (o : ObjectId) → (i : ℕ) × (t : ℕ) × (i < length qs) × InQueue (queue_at qs i) t o → (i : ℕ) × (t : ℕ) × (i < length qs') × InQueue (queue_at qs' i) t o
-        found o (i, t, low, h) = (i, t, subst (λ n. i < n) (sym (changed_length f qs j)) low, stays i t o h)

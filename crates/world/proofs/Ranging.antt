@@ -52,13 +52,10 @@ module _ {P : Type 0} (plans : Plans P) (layout : Layout) (slots : ℕ) (laws : 
 
   -- the first ready item has the ticket that its worker waits for
   at_first : (n : ℕ) (x : WorkerState P) (tickets : Tickets) (first : Ticket × ObjectId) → slice_get w.workers n ≡ Some x → x.core ≡ worker.Pops tickets → first_in (slice_get w.queues n) ≡ Some first → first.0 ≡ next_of tickets
-  at_first n x tickets first is pops found = by mine.items.ready refl (sym (ap first_in there) ∙ found)
+  at_first n x tickets first is pops found = by mine.items.ready refl (sym (ap first_in (slice_get-get_or w.queues n empty_queue_state (subst (λ m. n < m) callbacks.sizes.manned (slice_get_within w.workers n x is)))) ∙ found)
     where
       mine : QueueState
       mine = queue_at w.queues n
-
-      there : slice_get w.queues n ≡ Some (queue_at w.queues n)
-      there = slice_get-get_or w.queues n empty_queue_state (subst (λ m. n < m) callbacks.manned (slice_get_within w.workers n x is))
 
       batch : (mine.items.waiting ≡ []) × (tickets.left ≡ length mine.items.ready) × (1 ≤ tickets.left) × (mine.finished ≡ mine.items.gone) × (tickets.last.0 ≡ mine.items.gone + tickets.left)
       batch = subst (λ (p : WorkerCore P Unit). WorkKept mine.items.ready mine.items.waiting mine.items.cookie mine.items.gone mine.finished now.asked now.awaited now.asked_sections x.ask p) pops
@@ -80,15 +77,15 @@ module _ {P : Type 0} (plans : Plans P) (layout : Layout) (slots : ℕ) (laws : 
 
   pub in_range : IsInRange plans w
   in_range = record {
-    some_reader = subst (λ n. 1 ≤ n) (sym k.sized) k.some_slot;
-    queues = record { some = callbacks.some; few = callbacks.few };
+    some_reader = subst (λ n. 1 ≤ n) (sym k.shape.sized) k.shape.some_slot;
+    queues = record { some = callbacks.sizes.some; few = callbacks.sizes.few };
     ordinals = λ r v is. subst (λ (x : ReaderState). x.ordinal ≤ length w.log) (get_or_from_slice_get w.readers r v new_reader is) (k.ordinals r);
     copies = λ q r v copy is has.
         let l = ((k.readers_kept r).copying copy (ap (λ (x : ReaderState). x.copy) (get_or_from_slice_get w.readers r v new_reader is) ∙ has)).1 q in
         let n = k.part.grace_kept.number_low q in
         omega (arith, l, n, k.seq_low);
     asks = k.asks_low;
-    barriers = callbacks.barriers_low;
+    barriers = callbacks.numbers.barriers_low;
     starts = λ u x ask cookie is place. can_start (Syncing u) ask cookie (ap (λ (y : UpdaterState P). place_work y.place) (get_or_from_slice_get w.updaters u x idle is) ∙ ap place_work place);
     worker_starts = λ n x cookie tickets is core. can_start (Working n) x.ask cookie (ap (λ (y : WorkerState P). worker_work y.ask y.core) (get_or_from_slice_get w.workers n x new_worker is) ∙ ap (worker_work x.ask) core);
     plans_run = λ u x ask core is place. no_group (Syncing u) ask core (ap (λ (y : UpdaterState P). place_work y.place) (get_or_from_slice_get w.updaters u x idle is) ∙ ap place_work place);

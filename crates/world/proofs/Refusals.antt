@@ -7,7 +7,7 @@ use Rattle.world.specs.Row.{Row, first_failing}
 use Rattle.world.specs.Steps.{WorldView, OfMemb, OfQsbr, memb_plans, qsbr_plans}
 use Rattle.world.specs.Tests.{exact, tests_of, MeetsTests}
 use Rattle.world.specs.Workers.{is_none_left}
-use Rattle.world.proofs.Rows.{Fails, whichever, any_reads, any_retires, any_updates, any_works, Sweep, sweep}
+use Rattle.world.proofs.Rows.{Fails, whichever, any_retires, any_updates, any_works, Sweep, sweep}
 
 module _ (old new : WorldView) (r : Result Answer Refusal) where
   either : (fails : Bool) (answer : Result Answer Refusal) (rest : Option (Result Answer Refusal)) → IfErr answer IsStepError → (fails ≡ false → MeetsTests rest old new r → IfErr r IsStepError) →
@@ -27,7 +27,7 @@ module _ (old new : WorldView) (r : Result Answer Refusal) where
     stops = λ line fails e row h go. either fails (Err e) (first_failing row.tests) h go;
     stalls = λ line fails answer row never none go. either fails (Ok answer) (first_failing row.tests) tt go;
     lacks = λ line e h lack. none_failed r;
-    reads = λ n v verb was. any_reads plans.qsbr w.layout w n v (λ step. MeetsTests None old new r → IfErr r IsStepError) (λ step. none_failed r);
+    reads = λ n v verb was step row. none_failed r;
     updates = λ u x was. any_updates plans w u x (λ v change. MeetsTests None old new r → IfErr r IsStepError) (λ v change is. none_failed r) (any_retires plans w u x (λ v change. MeetsTests None old new r → IfErr r IsStepError) (λ y q act mark answer. none_failed r));
     works = λ k x was. any_works plans w k x (λ v change. MeetsTests None old new r → IfErr r IsStepError) (λ v y grace act mark answer. none_failed r);
   }

@@ -1,5 +1,5 @@
 -- The steps of a retirement, in their order.
-use Rattle.world.proofs.Cited.{◌≡◌, ◌<◌, ℕ, Bool, true, false, cond, not, is_some, List, [], ◌∷◌, length, get_or, slice_get, slice_set, Option, Some, None, Result, Ok, refl, sym, ap, ◌∙◌, subst, get_or-set_same, get_or_from_slice_get, slice_get_within, ObjectId, Refusal, Quiet, Blocked, QueueState, RetireStep, Count, Free, UpdaterPlace, Idle, Retires, UpdaterState, Change, Hold, Stay, empty_queue_state, held_by, Plans, BoardView, idle, changed_here}
+use Rattle.world.proofs.Cited.{◌≡◌, ◌<◌, ℕ, Bool, true, false, cond, not, is_some, [], ◌∷◌, length, get_or, slice_get, slice_set, Option, Some, None, Result, Ok, refl, sym, ap, ◌∙◌, subst, get_or-set_same, get_or_from_slice_get, slice_get_within, ObjectId, Refusal, Quiet, Blocked, QueueState, RetireStep, Count, Free, UpdaterPlace, Idle, Retires, UpdaterState, Change, Hold, Stay, empty_queue_state, held_by, Plans, BoardView, idle, changed_here}
 use Rattle.world_state.specs.declared.line.UpdaterVerb.TheVariants as verb
 use Rattle.world_state.specs.declared.updater.RetireStep.TheVariants.{Mark, Push}
 use Rattle.world.specs.Lines.{operation_test, is_idle, updater_on, of_updater, with_change}

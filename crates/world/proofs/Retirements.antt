@@ -1,5 +1,5 @@
 -- What the steps of `retire` keep, and that what they tell may come.
-use Rattle.world.proofs.Cited.{◌≡◌, ◌≢◌, ◌⊎◌, ⊎_elim, ℕ, true≢false, inl, inr, ◌+◌, ◌%◌, ◌<◌, ◌≤◌, ◌&&◌, is_some, true, false, List, [], ◌∷◌, ◌++◌, length, slice_get, slice_set, Option, Some, None, Result, Ok, refl, sym, ap, ◌∙◌, subst, arith, length-append, length-set, eqb-true, and_parts, mod_below, get_or_from_slice_get, Event, ObjectId, SectionId, Refusal, at_object, State, In, has_object_in, in_objects, at_object_same, at_object_other, decide, Layout, items_of, given_of, Life, Stage, Mark, ObjectState, QueueState, RetireStep, UpdaterPlace, Idle, Retires, Bars, UpdaterState, WorkerState, Change, Hold, marked_life, empty_queue_state, item_of, held_by, acted, changed_at, acted_at, held_at, Plans, BoardView, no_object, stage_of, chain_of, within, life_of, life_within, life_marked, life_else, chain_marked, Items, Has, Stands, InQueue, queue_at, has_left, has_right, has_stands, stands_left, stands_last, stands_more, changed_here, changed_length, items_pushed}
+use Rattle.world.proofs.Cited.{◌≡◌, ◌≢◌, ◌⊎◌, ⊎_elim, ℕ, true≢false, inl, inr, ◌+◌, ◌%◌, ◌<◌, ◌≤◌, ◌&&◌, is_some, true, false, List, [], ◌∷◌, ◌++◌, length, slice_get, slice_set, Option, Some, None, Result, Ok, refl, sym, ap, ◌∙◌, subst, arith, length-append, length-set, eqb-true, and_parts, mod_below, get_or_from_slice_get, ObjectId, SectionId, Refusal, at_object, State, In, has_object_in, in_objects, at_object_same, at_object_other, decide, none_some, some_is, Layout, items_of, given_of, Life, Stage, Mark, ObjectState, QueueState, RetireStep, UpdaterPlace, Idle, Retires, Bars, UpdaterState, WorkerState, Change, Hold, marked_life, empty_queue_state, item_of, held_by, acted, changed_at, acted_at, held_at, Plans, BoardView, no_object, stage_of, chain_of, within, life_of, life_within, life_marked, life_else, chain_marked, Items, Has, Stands, InQueue, queue_at, has_left, has_right, has_stands, stands_left, stands_last, stands_more, changed_here, changed_length, items_pushed}
 use Rattle.rcu_model.specs.declared.event.Event.TheVariants as events
 use Rattle.world_state.specs.declared.object.Life.TheVariants as life
 use Rattle.world_state.specs.declared.object.Stage.TheVariants as stage
@@ -8,11 +8,12 @@ use Rattle.world_state.specs.declared.updater.RetireStep.TheVariants as due
 use Rattle.world.specs.Chains.{writes}
 use Rattle.world.specs.Queues.{queue_of, at_place, is_cut, is_kept, may_retire, retire_on}
 use Rattle.world.proofs.Fence.{Laws}
-use Rattle.world.proofs.State.{place_work, updater_at, worker_at, Kept}
+use Rattle.world.proofs.Tests.{none_is}
+use Rattle.world.proofs.State.{place_work, updater_at, worker_at, Kept, at_updaters}
 use Rattle.world.proofs.KeptPublishing.{There}
-use Rattle.world.proofs.KeptReaders.{log_one}
-use Rattle.world.proofs.Callbacks.{LifeKept, ItemsKept, QueueKept, Retiring, RetireKept, WorkAt, BarKept, Barring, CallbacksKept, Callbacks, at_updaters, at_queues, work_at, queue_kept}
-use Rattle.world.proofs.QueueChanges.{retire_marked, retire_apart, retire_here, bar_over, stays, items_stay}
+use Rattle.world.proofs.KeptReaders.{longer, log_one}
+use Rattle.world.proofs.Callbacks.{Found, LifeKept, ItemsKept, QueueKept, Retiring, RetireKept, WorkAt, BarKept, Barring, CallbacksKept, Callbacks, at_queues, work_at, queue_kept, sizes_over, numbers_over}
+use Rattle.world.proofs.QueueChanges.{found_over, retire_marked, retire_apart, retire_here, bar_over, stays, items_stay}
 use Rattle.world.proofs.Plain.{OwesAll, logged_more, one_barrier_set}
 use Rattle.world.proofs.Beside.{kept_updater, beside}
 
@@ -52,19 +53,22 @@ pub more_reclaimed : (l : Life) (o p : ObjectId) (r q c : List ObjectId) → p �
 more_reclaimed life.Reclaimed o p r q c apart h = (h.0, h.1, inr h.2)
 more_reclaimed _ o p r q c apart h = (h.0, h.1, (λ i. h.2 (in_other o p c apart i)))
 
-pub kept_queued : life.Kept ≡ life.Queued → ⊥
-kept_queued e = cc
-
-pub retired_queued : life.Retired ≡ life.Queued → ⊥
-retired_queued e = cc
+-- a header is stored: its object lives as it says, and the others as before
+pub lives_marked : (os : List ObjectState) (m : Mark) (r q c r' q' c' : List ObjectId) → m.object.0 < length os → LifeKept m.life m.object r' q' c' → ((p : ObjectId) → p ≢ m.object → LifeKept (life_of os p) p r q c → LifeKept (life_of os p) p r' q' c') →
+    ((p : ObjectId) → LifeKept (life_of os p) p r q c) → (p : ObjectId) → LifeKept (life_of (marked_life os (Some m)) p) p r' q' c'
+lives_marked os m r q c r' q' c' inside mine others lives p = by (decide p m.object)
+  where
+    by : (p ≡ m.object) ⊎ (p ≢ m.object) → LifeKept (life_of (marked_life os (Some m)) p) p r' q' c'
+    by (inl e) = subst (λ (z : ObjectId). LifeKept (life_of (marked_life os (Some m)) z) z r' q' c') (sym e) (subst (λ (l : Life). LifeKept l m.object r' q' c') (sym (life_marked os m inside)) mine)
+    by (inr n) = subst (λ (l : Life). LifeKept l p r' q' c') (sym (life_else os m p n)) (others p n (lives p))
 
 -- the header says that the object is retired
 items_retired : (os : List ObjectState) (qs : List QueueState) (r q c : List ObjectId) (o : ObjectId) → o.0 < length os → life_of os o ≡ life.Kept → ItemsKept os qs r q c →
     ItemsKept (marked_life os (Some (record { object = o; life = life.Retired }))) qs (o ∷ r) q c
 items_retired os qs r q c o inside was k = record {
-  lives = λ p. lives p (decide p o);
+  lives = lives_marked os m r q c (o ∷ r) q c inside (inl refl, mine.1, mine.2) (λ p. more_retired (life_of os p) o p r q c) k.lives;
   found = λ p e. k.found p (queued p (decide p o) e);
-  there = λ j t p h. let is = k.there j t p h in life_else os m p (λ e. kept_queued (sym was ∙ ap (life_of os) (sym e) ∙ is)) ∙ is;
+  there = λ j t p h. let is = k.there j t p h in life_else os m p (λ e. cc (sym was ∙ ap (life_of os) (sym e) ∙ is)) ∙ is;
   one_place = k.one_place;
 }
   where
@@ -74,21 +78,20 @@ items_retired os qs r q c o inside was k = record {
     mine : LifeKept life.Kept o r q c
     mine = subst (λ (l : Life). LifeKept l o r q c) was (k.lives o)
 
-    lives : (p : ObjectId) → (p ≡ o) ⊎ (p ≢ o) → LifeKept (life_of (marked_life os (Some m)) p) p (o ∷ r) q c
-    lives p (inl e) =
-        subst (λ (z : ObjectId). LifeKept (life_of (marked_life os (Some m)) z) z (o ∷ r) q c) (sym e)
-        (subst (λ (l : Life). LifeKept l o (o ∷ r) q c) (sym (life_marked os m inside)) (inl refl, mine.1, mine.2))
-    lives p (inr n) = subst (λ (l : Life). LifeKept l p (o ∷ r) q c) (sym (life_else os m p n)) (more_retired (life_of os p) o p r q c n (k.lives p))
-
     queued : (p : ObjectId) → (p ≡ o) ⊎ (p ≢ o) → life_of (marked_life os (Some m)) p ≡ life.Queued → life_of os p ≡ life.Queued
-    queued p (inl e) is = absurd (retired_queued (sym (life_marked os m inside) ∙ ap (life_of (marked_life os (Some m))) (sym e) ∙ is))
+    queued p (inl e) is = cc (sym (life_marked os m inside) ∙ ap (life_of (marked_life os (Some m))) (sym e) ∙ is)
     queued p (inr n) is = sym (life_else os m p n) ∙ is
+
+-- who stands in a queue stands there when an item is pushed
+pushed_stays : (qs : List QueueState) (j : ℕ) (o : ObjectId) → j < length qs → (i t : ℕ) (p : ObjectId) → InQueue (queue_at qs i) t p → InQueue (queue_at (changed_at (acted (act.Push o)) qs j (slice_get qs j)) i) t p
+pushed_stays qs j o at i t p = at_queues (λ i r. InQueue (queue_at qs i) t p → InQueue r t p) (acted (act.Push o)) qs j at
+    (λ h. let z = (queue_at qs j).items in subst (λ (l : Items). Stands z.gone l t p) (sym (items_pushed z (item_of o))) (stands_left z.gone (items_of z) (item_of o ∷ []) t p h)) (λ i n h. h) i
 
 -- its item is pushed
 items_queued : (os : List ObjectState) (qs : List QueueState) (j : ℕ) (r q c : List ObjectId) (o : ObjectId) → j < length qs → o.0 < length os → life_of os o ≡ life.Retired → ItemsKept os qs r q c →
     ItemsKept (marked_life os (Some (record { object = o; life = life.Queued }))) (changed_at (acted (act.Push o)) qs j (slice_get qs j)) r (o ∷ q) c
 items_queued os qs j r q c o at inside was k = record {
-  lives = λ p. lives p (decide p o);
+  lives = lives_marked os m r q c r (o ∷ q) c inside (mine.0, inl refl, mine.2) (λ p. more_queued (life_of os p) o p r q c) k.lives;
   found = λ p e. found p (decide p o) e;
   there = λ i t p h. there p (shape i t p h);
   one_place = λ a b s t p g h. places a b s t p (shape a s p g) (shape b t p h);
@@ -109,27 +112,13 @@ items_queued os qs j r q c o at inside was k = record {
     mine : LifeKept life.Retired o r q c
     mine = subst (λ (l : Life). LifeKept l o r q c) was (k.lives o)
 
-    lives : (p : ObjectId) → (p ≡ o) ⊎ (p ≢ o) → LifeKept (life_of (marked_life os (Some m)) p) p r (o ∷ q) c
-    lives p (inl e) =
-        subst (λ (y : ObjectId). LifeKept (life_of (marked_life os (Some m)) y) y r (o ∷ q) c) (sym e)
-        (subst (λ (l : Life). LifeKept l o r (o ∷ q) c) (sym (life_marked os m inside)) (mine.0, inl refl, mine.2))
-    lives p (inr n) = subst (λ (l : Life). LifeKept l p r (o ∷ q) c) (sym (life_else os m p n)) (more_queued (life_of os p) o p r q c n (k.lives p))
-
     new : InQueue (queue_at (changed_at f qs j (slice_get qs j)) j) last o
     new = subst (λ (y : QueueState). InQueue y last o) (sym (changed_here f qs j at))
         (subst (λ (l : Items). Stands z.items.gone l last o) (sym (items_pushed z.items (item_of o))) (stands_last z.items.gone (items_of z.items) (item_of o)))
 
-    old : (i t : ℕ) (p : ObjectId) → InQueue (queue_at qs i) t p → InQueue (queue_at (changed_at f qs j (slice_get qs j)) i) t p
-    old i t p = at_queues (λ i y. InQueue (queue_at qs i) t p → InQueue y t p) f qs j at
-        (λ h. subst (λ (l : Items). Stands z.items.gone l t p) (sym (items_pushed z.items (item_of o))) (stands_left z.items.gone (items_of z.items) (item_of o ∷ []) t p h)) (λ i n h. h) i
-
-    found : (p : ObjectId) → (p ≡ o) ⊎ (p ≢ o) → life_of (marked_life os (Some m)) p ≡ life.Queued →
-        (i : ℕ) × (t : ℕ) × (i < length (changed_at f qs j (slice_get qs j))) × InQueue (queue_at (changed_at f qs j (slice_get qs j)) i) t p
+    found : (p : ObjectId) → (p ≡ o) ⊎ (p ≢ o) → life_of (marked_life os (Some m)) p ≡ life.Queued → Found (changed_at f qs j (slice_get qs j)) p
     found p (inl e) is = (j, last, subst (λ n. j < n) (sym (changed_length f qs j)) at, subst (λ (y : ObjectId). InQueue (queue_at (changed_at f qs j (slice_get qs j)) j) last y) (sym e) new)
-    found p (inr n) is = later (k.found p (sym (life_else os m p n) ∙ is))
-      where
-        later : (i : ℕ) × (t : ℕ) × (i < length qs) × InQueue (queue_at qs i) t p → (i : ℕ) × (t : ℕ) × (i < length (changed_at f qs j (slice_get qs j))) × InQueue (queue_at (changed_at f qs j (slice_get qs j)) i) t p
-        later (i, t, low, h) = (i, t, subst (λ n. i < n) (sym (changed_length f qs j)) low, old i t p h)
+    found p (inr n) is = found_over qs _ p (changed_length f qs j) (λ i t. pushed_stays qs j o at i t p) (k.found p (sym (life_else os m p n) ∙ is))
 
     -- what stands in a queue stood there, or is the new item
     shape : (i t : ℕ) (p : ObjectId) → InQueue (queue_at (changed_at f qs j (slice_get qs j)) i) t p → InQueue (queue_at qs i) t p ⊎ ((i ≡ j) × (t ≡ last) × (p ≡ o))
@@ -141,11 +130,11 @@ items_queued os qs j r q c o at inside was k = record {
         (λ i n h. inl h) i
 
     there : (p : ObjectId) → {i t : ℕ} → InQueue (queue_at qs i) t p ⊎ ((i ≡ j) × (t ≡ last) × (p ≡ o)) → life_of (marked_life os (Some m)) p ≡ life.Queued
-    there p {i = i} {t = t} (inl h) = let is = k.there i t p h in life_else os m p (λ e. retired_queued (sym was ∙ ap (life_of os) (sym e) ∙ is)) ∙ is
+    there p {i = i} {t = t} (inl h) = let is = k.there i t p h in life_else os m p (λ e. cc (sym was ∙ ap (life_of os) (sym e) ∙ is)) ∙ is
     there p (inr y) = ap (life_of (marked_life os (Some m))) y.2 ∙ life_marked os m inside
 
     none_old : (i t : ℕ) (p : ObjectId) → p ≡ o → InQueue (queue_at qs i) t p → ⊥
-    none_old i t p e h = retired_queued (sym was ∙ ap (life_of os) (sym e) ∙ k.there i t p h)
+    none_old i t p e h = cc (sym was ∙ ap (life_of os) (sym e) ∙ k.there i t p h)
 
     places : (a b s t : ℕ) (p : ObjectId) → InQueue (queue_at qs a) s p ⊎ ((a ≡ j) × (s ≡ last) × (p ≡ o)) → InQueue (queue_at qs b) t p ⊎ ((b ≡ j) × (t ≡ last) × (p ≡ o)) → (a ≡ b) × (s ≡ t)
     places a b s t p (inl g) (inl h) = k.one_place a b s t p g h
@@ -171,13 +160,10 @@ module _ {P : Type 0} (plans : Plans P) (layout : Layout) (slots : ℕ) (laws : 
   Owed r = OwesAll plans layout slots laws w now kept k r
 
   inside : j < length qs
-  inside = let some = k.some in mod_below u (length qs) (omega (arith, some))
+  inside = let some = k.sizes.some in mod_below u (length qs) (omega (arith, some))
 
   other_holder : q.holder ≡ Some u → (v : ℕ) → v ≢ u → q.holder ≢ Some v
-  other_holder mine v apart e = apart (same (sym mine ∙ e))
-    where
-      same : Some u ≡ Some v → v ≡ u
-      same e = let f : u ≡ v = cc in sym f
+  other_holder mine v apart e = apart (some_is v u (sym e ∙ mine))
 
   -- the updater's place among the others
   set_places : (os' : List ObjectState) (qs' : List QueueState) (x' : UpdaterState P) → RetireKept os' qs' count u x'.place → ((v : ℕ) → v ≢ u → RetireKept os' qs' count v (updater_at w.updaters v).place) →
@@ -190,26 +176,34 @@ module _ {P : Type 0} (plans : Plans P) (layout : Layout) (slots : ℕ) (laws : 
     abbrev after : List QueueState
     after = changed_at f qs j (slice_get qs j)
 
-    -- a step that leaves items and objects where they are
+    -- a step that changes the queue of the updater, and stores a header or none
+    queue_step : (x' : UpdaterState P) (mark : Option Mark) (logged : ℕ) (retired queued : List ObjectId) (awaited : ObjectId → List SectionId) → length w.log ≤ logged → ItemsKept (marked_life w.objects mark) after retired queued now.reclaimed →
+        ((i : ℕ) → QueueKept (queue_at after i) logged awaited) → ((o : ObjectId) (s : SectionId) → In (awaited o) s → In now.sections s) →
+        RetireKept (marked_life w.objects mark) after count u x'.place → ((v : ℕ) → v ≢ u → RetireKept (marked_life w.objects mark) after count v (updater_at w.updaters v).place) →
+        ((i : ℕ) → WorkAt (queue_at after i) now.asked awaited now.asked_sections (worker_at w.workers i)) → BarsNone x'.place → ((i s : ℕ) (o : ObjectId) → InQueue (queue_at qs i) s o → InQueue (queue_at after i) s o) →
+        CallbacksKept (marked_life w.objects mark) after (slice_set w.updaters u x') w.workers w.barriers logged now.sections retired queued now.reclaimed awaited now.asked now.asked_sections now.noted now.cleared now.noted_objects
+    queue_step x' mark logged retired queued awaited more items queues opens mine others works none stay = record {
+      sizes = sizes_over (changed_length f qs j) refl k.sizes;
+      items = items;
+      queues = queues;
+      awaits_open = opens;
+      retiring = set_places (marked_life w.objects mark) after x' mine others;
+      working = works;
+      barring = at_updaters (λ v y. BarKept after now.noted now.cleared now.noted_objects y.place) w.updaters u x' t.inside (bars_kept after now.noted now.cleared now.noted_objects x'.place none)
+          (λ v apart. bar_over qs after now.noted now.cleared now.noted_objects now.noted_objects (updater_at w.updaters v).place (changed_length f qs j) (λ b o h. (h, λ i s. stay i s o)) (k.barring v));
+      one_barrier = one_barrier_set w.updaters u x' t.inside (λ n. bars_none x'.place n none) k.one_barrier;
+      numbers = numbers_over more k.numbers;
+    }
+
+    -- one that leaves items and objects where they are
     lock_step : (x' : UpdaterState P) → (f q).items.gone ≡ q.items.gone → items_of (f q).items ≡ items_of q.items → QueueKept (f q) (length w.log) now.awaited → ((v : ℕ) → v ≢ u → q.holder ≢ Some v) →
         RetireKept w.objects after count u x'.place → BarsNone x'.place → ((n : ℕ) (y : WorkerState P) → WorkAt q now.asked now.awaited now.asked_sections y → WorkAt (f q) now.asked now.awaited now.asked_sections y) →
         CallbacksKept w.objects after (slice_set w.updaters u x') w.workers w.barriers (length w.log) now.sections now.retired now.queued now.reclaimed now.awaited now.asked now.asked_sections now.noted now.cleared now.noted_objects
-    lock_step x' gone items mine others place none works = record {
-      some = subst (λ n. 1 ≤ n) (sym (changed_length f qs j)) k.some;
-      few = subst (λ n. n ≤ 8) (sym (changed_length f qs j)) k.few;
-      manned = k.manned ∙ sym (changed_length f qs j);
-      items = items_stay qs j f inside gone items w.objects now.retired now.queued now.reclaimed k.items;
-      queues = at_queues (λ i r. QueueKept r (length w.log) now.awaited) f qs j inside mine (λ i apart. k.queues i);
-      awaits_open = k.awaits_open;
-      retiring = set_places w.objects after x' place (λ v apart. retire_apart qs j f inside w.objects count v (updater_at w.updaters v).place (others v apart) (k.retiring v));
-      working = at_queues (λ i r. WorkAt r now.asked now.awaited now.asked_sections (worker_at w.workers i)) f qs j inside (works j (worker_at w.workers j) (k.working j)) (λ i apart. k.working i);
-      barring = at_updaters (λ v y. BarKept after now.noted now.cleared now.noted_objects y.place) w.updaters u x' t.inside (bars_kept after now.noted now.cleared now.noted_objects x'.place none)
-          (λ v apart. bar_over qs after now.noted now.cleared now.noted_objects now.noted_objects (updater_at w.updaters v).place (changed_length f qs j) (λ b o h. (h, λ i s. stays qs j f inside gone items i s o)) (k.barring v));
-      one_barrier = one_barrier_set w.updaters u x' t.inside (λ n. bars_none x'.place n none) k.one_barrier;
-      noted_low = k.noted_low;
-      cleared_noted = k.cleared_noted;
-      barriers_low = k.barriers_low;
-    }
+    lock_step x' gone items mine others place none works =
+        queue_step x' None (length w.log) now.retired now.queued now.awaited (omega arith) (items_stay qs j f inside gone items w.objects now.retired now.queued now.reclaimed k.items)
+        (at_queues (λ i r. QueueKept r (length w.log) now.awaited) f qs j inside mine (λ i apart. k.queues i)) k.awaits_open
+        place (λ v apart. retire_apart qs j f inside w.objects count v (updater_at w.updaters v).place (others v apart) (k.retiring v))
+        (at_queues (λ i r. WorkAt r now.asked now.awaited now.asked_sections (worker_at w.workers i)) f qs j inside (works j (worker_at w.workers j) (k.working j)) (λ i apart. k.working i)) none (stays qs j f inside gone items)
 
   -- the first step: the lock is taken
   record MayGo (o : ObjectId) : Type 0 where
@@ -218,9 +212,8 @@ module _ {P : Type 0} (plans : Plans P) (layout : Layout) (slots : ℕ) (laws : 
     home : chain_of w.objects o % count ≡ u
 
   cut_tells : (s : Stage) → is_cut s ≡ true → s ≡ stage.Cut
-  cut_tells stage.Fresh e = absurd (true≢false (sym e))
-  cut_tells stage.Linked e = absurd (true≢false (sym e))
   cut_tells stage.Cut e = refl
+  cut_tells _ e = absurd (true≢false (sym e))
 
   kept_tells : (l : Life) → is_kept l ≡ true → l ≡ life.Kept
   kept_tells life.Kept e = refl
@@ -243,7 +236,7 @@ module _ {P : Type 0} (plans : Plans P) (layout : Layout) (slots : ℕ) (laws : 
     tt,
     kept_updater plans layout slots laws w now kept u x x' (held_at qs j u) None w.barriers w.log t (omega arith) (λ os. tt) refl (ap place_work was) refl,
     lock_step (held_by u) x' refl refl
-        (record { is_open = (k.queues j).is_open; given_low = (k.queues j).given_low; announced = (k.queues j).announced; at_rest = λ e. absurd (some_none e); ready_free = (k.queues j).ready_free })
+        (record { is_open = (k.queues j).is_open; given_low = (k.queues j).given_low; announced = (k.queues j).announced; at_rest = λ e. absurd (none_some u (sym e)); ready_free = (k.queues j).ready_free })
         (λ v apart e. none_some v (sym free ∙ e))
         (retire_here qs j (held_by u) inside w.objects count u o due.Mark refl (refl, (g.was_cut, g.was_kept, g.home, refl, (k.queues j).at_rest free))) tt (λ n y h. h),
   )
@@ -254,37 +247,15 @@ module _ {P : Type 0} (plans : Plans P) (layout : Layout) (slots : ℕ) (laws : 
       g : MayGo o
       g = may_go o (slice_get w.objects o.0) refl may
 
-      none_of : (h : Option ℕ) → is_some h ≡ false → h ≡ None
-      none_of None e = refl
-      none_of (Some v) e = absurd (true≢false e)
-
       free : q.holder ≡ None
-      free = ap (λ (z : QueueState). z.holder) (get_or_from_slice_get qs j r empty_queue_state at_r) ∙ none_of r.holder unheld
-
-      some_none : (let h : Option ℕ = Some u in h) ≡ None → ⊥
-      some_none e = cc
-
-      none_some : (v : ℕ) → None ≡ Some v → ⊥
-      none_some v e = cc
-
-  longer : (es : List Event) → length w.log ≤ length (w.log ++ es)
-  longer es = omega (arith, length-append w.log es)
+      free = ap (λ (z : QueueState). z.holder) (get_or_from_slice_get qs j r empty_queue_state at_r) ∙ none_is r.holder unheld
 
   none_holds : q.holder ≡ Some u → q.holder ≡ None → ⊥
-  none_holds mine free = no (sym mine ∙ free)
-    where
-      no : (let h : Option ℕ = Some u in h) ≡ None → ⊥
-      no e = cc
+  none_holds mine free = none_some u (sym free ∙ mine)
 
   module _ (o : ObjectId) where
     abbrev Mine : RetireStep → Type 0
     Mine d = Retiring w.objects q count u o d
-
-    retired_kept : life.Retired ≡ life.Kept → ⊥
-    retired_kept e = cc
-
-    cut_fresh : stage.Cut ≡ stage.Fresh → ⊥
-    cut_fresh e = cc
 
     -- another updater retires another object
     other_object : chain_of w.objects o % count ≡ u → (v : ℕ) → v ≢ u → (p : ObjectId) → (life_of w.objects p ≡ life.Kept) ⊎ (life_of w.objects p ≡ life.Retired) → chain_of w.objects p % count ≡ v → p ≢ o
@@ -293,58 +264,36 @@ module _ {P : Type 0} (plans : Plans P) (layout : Layout) (slots : ℕ) (laws : 
     -- the header is stored
     owes_mark : x.place ≡ Retires o due.Mark → Mine due.Mark → Owed (Ok (retire_on w u x o due.Mark))
     owes_mark was g = (
-      ((has_object_in now.cut o (kept.links_kept.cuts o g.1.0), (λ h. mine.0 (in_objects now.retired o h))), tt),
+      ((has_object_in now.cut o (kept.links_kept.cuts o g.1.0), (λ h. (subst (λ (l : Life). LifeKept l o now.retired now.queued now.reclaimed) g.1.1 (k.items.lives o)).0 (in_objects now.retired o h))), tt),
       beside plans layout slots laws _ now
-          (kept_updater plans layout slots laws w now kept u x x' after' (Some m) w.barriers (w.log ++ events.Retire o ∷ []) t (longer (events.Retire o ∷ [])) (λ os. tt) refl (ap place_work was) refl)
+          (kept_updater plans layout slots laws w now kept u x x' (after f) (Some m) w.barriers (w.log ++ events.Retire o ∷ []) t (longer w.log (events.Retire o ∷ [])) (λ os. tt) refl (ap place_work was) refl)
           (o ∷ now.retired) now.queued now.reclaimed awaited' now.noted now.cleared now.noted_objects,
-      record {
-        some = subst (λ n. 1 ≤ n) (sym (changed_length f qs j)) k.some;
-        few = subst (λ n. n ≤ 8) (sym (changed_length f qs j)) k.few;
-        manned = k.manned ∙ sym (changed_length f qs j);
-        items = items_retired w.objects after' now.retired now.queued now.reclaimed o within_o g.1.1 (items_stay qs j f inside refl refl w.objects now.retired now.queued now.reclaimed k.items);
-        queues = at_queues (λ i r. QueueKept r (length (w.log ++ events.Retire o ∷ [])) awaited') f qs j inside (queue j) (λ i apart. queue i);
-        awaits_open = λ p s h. opens p s (decide p o) h;
-        retiring = set_places os' after' x'
-            (retire_here qs j f inside os' count u o due.Count refl
-            (g.0, (life_marked w.objects m within_o, ap (λ c. c % count) (chain_marked w.objects (Some m) o) ∙ g.1.2, g.1.3, g.1.4)))
-            (λ v apart. retire_marked w.objects m after' count v (updater_at w.updaters v).place (other_object g.1.2 v apart) (retire_apart qs j f inside w.objects count v (updater_at w.updaters v).place (other_holder g.0 v apart) (k.retiring v)));
-        working = at_queues (λ i r. WorkAt r now.asked awaited' now.asked_sections (worker_at w.workers i)) f qs j inside (work j) (λ i apart. work i);
-        barring = at_updaters (λ v y. BarKept after' now.noted now.cleared now.noted_objects y.place) w.updaters u x' t.inside tt
-            (λ v apart. bar_over qs after' now.noted now.cleared now.noted_objects now.noted_objects (updater_at w.updaters v).place (changed_length f qs j) (λ b p h. (h, λ i s. stays qs j f inside refl refl i s p)) (k.barring v));
-        one_barrier = one_barrier_set w.updaters u x' t.inside (λ n h. h) k.one_barrier;
-        noted_low = k.noted_low;
-        cleared_noted = k.cleared_noted;
-        barriers_low = let low = k.barriers_low in let more = longer (events.Retire o ∷ []) in omega (arith, low, more);
-      },
+      queue_step f x' (Some m) (length (w.log ++ events.Retire o ∷ [])) (o ∷ now.retired) now.queued awaited' (longer w.log (events.Retire o ∷ []))
+          (items_retired w.objects (after f) now.retired now.queued now.reclaimed o within_o g.1.1 (items_stay qs j f inside refl refl w.objects now.retired now.queued now.reclaimed k.items))
+          (at_queues (λ i r. QueueKept r (length (w.log ++ events.Retire o ∷ [])) awaited') f qs j inside (queue j) (λ i apart. queue i)) (λ p s h. opens p s (decide p o) h)
+          (retire_here qs j f inside (marked_life w.objects (Some m)) count u o due.Count refl (g.0, (life_marked w.objects m within_o, ap (λ c. c % count) (chain_marked w.objects (Some m) o) ∙ g.1.2, g.1.3, g.1.4)))
+          (λ v apart. retire_marked w.objects m (after f) count v (updater_at w.updaters v).place (other_object g.1.2 v apart) (retire_apart qs j f inside w.objects count v (updater_at w.updaters v).place (other_holder g.0 v apart) (k.retiring v)))
+          (at_queues (λ i r. WorkAt r now.asked awaited' now.asked_sections (worker_at w.workers i)) f qs j inside (work j) (λ i apart. work i)) tt (stays qs j f inside refl refl),
     )
       where
         f : QueueState → QueueState
         f = acted act.Leave
 
-        after' : List QueueState
-        after' = changed_at f qs j (slice_get qs j)
-
         m : Mark
         m = record { object = o; life = life.Retired }
-
-        os' : List ObjectState
-        os' = marked_life w.objects (Some m)
 
         x' : UpdaterState P
         x' = at_place x (Retires o due.Count)
 
         within_o : o.0 < length w.objects
-        within_o = within w.objects o (λ e. cut_fresh (sym g.1.0 ∙ e))
-
-        mine : LifeKept life.Kept o now.retired now.queued now.reclaimed
-        mine = subst (λ (l : Life). LifeKept l o now.retired now.queued now.reclaimed) g.1.1 (k.items.lives o)
+        within_o = within w.objects o (λ e. cc (sym g.1.0 ∙ e))
 
         awaited' : ObjectId → List SectionId
         awaited' = at_object o now.sections now.awaited
 
         -- who stands in a queue is another object
         other : (i s : ℕ) (p : ObjectId) → InQueue (queue_at qs i) s p → p ≢ o
-        other i s p h e = kept_queued (sym g.1.1 ∙ ap (life_of w.objects) (sym e) ∙ k.items.there i s p h)
+        other i s p h e = cc (sym g.1.1 ∙ ap (life_of w.objects) (sym e) ∙ k.items.there i s p h)
 
         same_awaited : (p : ObjectId) → p ≢ o → awaited' p ≡ now.awaited p
         same_awaited p n = at_object_other o p now.sections now.awaited n
@@ -356,7 +305,7 @@ module _ {P : Type 0} (plans : Plans P) (layout : Layout) (slots : ℕ) (laws : 
         queue : (i : ℕ) → QueueKept (queue_at qs i) (length (w.log ++ events.Retire o ∷ [])) awaited'
         queue i = record {
           is_open = (k.queues i).is_open;
-          given_low = let low = (k.queues i).given_low in let more = longer (events.Retire o ∷ []) in omega (arith, low, more);
+          given_low = let low = (k.queues i).given_low in let more = longer w.log (events.Retire o ∷ []) in omega (arith, low, more);
           announced = (k.queues i).announced;
           at_rest = (k.queues i).at_rest;
           ready_free = λ p h. let s = ready_there (queue_at qs i) p h in same_awaited p (other i s.0 p s.1) ∙ (k.queues i).ready_free p h;
@@ -373,8 +322,8 @@ module _ {P : Type 0} (plans : Plans P) (layout : Layout) (slots : ℕ) (laws : 
     owes_count : x.place ≡ Retires o due.Count → Mine due.Count → Owed (Ok (retire_on w u x o due.Count))
     owes_count was g = (
       tt,
-      kept_updater plans layout slots laws w now kept u x x' (acted_at qs j act.Count) None w.barriers (w.log ++ []) t (longer []) (λ os. tt) refl (ap place_work was) refl,
-      logged_more (length (w.log ++ [])) (longer [])
+      kept_updater plans layout slots laws w now kept u x x' (acted_at qs j act.Count) None w.barriers (w.log ++ []) t (longer w.log []) (λ os. tt) refl (ap place_work was) refl,
+      logged_more (length (w.log ++ [])) (longer w.log [])
           (lock_step (acted act.Count) x' refl refl
           (record { is_open = (k.queues j).is_open; given_low = (k.queues j).given_low; announced = let low = (k.queues j).announced in omega (arith, low); at_rest = λ e. absurd (none_holds g.0 e); ready_free = (k.queues j).ready_free })
           (other_holder g.0) (retire_here qs j (acted act.Count) inside w.objects count u o due.Push refl (g.0, (g.1.0, g.1.1, g.1.2, ap (λ n. n + 1) g.1.3))) tt (λ n y h. h)),
@@ -386,8 +335,8 @@ module _ {P : Type 0} (plans : Plans P) (layout : Layout) (slots : ℕ) (laws : 
     owes_unlock : x.place ≡ Retires o due.Free → Mine due.Free → Owed (Ok (retire_on w u x o due.Free))
     owes_unlock was g = (
       tt,
-      kept_updater plans layout slots laws w now kept u x x' (acted_at qs j act.Free) None w.barriers (w.log ++ []) t (longer []) (λ os. tt) refl (ap place_work was) refl,
-      logged_more (length (w.log ++ [])) (longer [])
+      kept_updater plans layout slots laws w now kept u x x' (acted_at qs j act.Free) None w.barriers (w.log ++ []) t (longer w.log []) (λ os. tt) refl (ap place_work was) refl,
+      logged_more (length (w.log ++ [])) (longer w.log [])
           (lock_step (acted act.Free) x' refl refl
           (record { is_open = (k.queues j).is_open; given_low = (k.queues j).given_low; announced = (k.queues j).announced; at_rest = λ e. g.1; ready_free = (k.queues j).ready_free })
           (other_holder g.0) tt tt (λ n y h. h)),
@@ -401,46 +350,25 @@ module _ {P : Type 0} (plans : Plans P) (layout : Layout) (slots : ℕ) (laws : 
     owes_push was g = (
       ((has_object_in now.retired o mine.0, (λ h. mine.1 (in_objects now.queued o h))), tt),
       beside plans layout slots laws _ now
-          (kept_updater plans layout slots laws w now kept u x x' after' (Some m) w.barriers (w.log ++ events.Queue o j ∷ []) t (longer (events.Queue o j ∷ [])) (λ os. tt) refl (ap place_work was) refl)
+          (kept_updater plans layout slots laws w now kept u x x' (after f) (Some m) w.barriers (w.log ++ events.Queue o j ∷ []) t (longer w.log (events.Queue o j ∷ [])) (λ os. tt) refl (ap place_work was) refl)
           now.retired (o ∷ now.queued) now.reclaimed now.awaited now.noted now.cleared now.noted_objects,
-      record {
-        some = subst (λ n. 1 ≤ n) (sym (changed_length f qs j)) k.some;
-        few = subst (λ n. n ≤ 8) (sym (changed_length f qs j)) k.few;
-        manned = k.manned ∙ sym (changed_length f qs j);
-        items = items_queued w.objects qs j now.retired now.queued now.reclaimed o inside within_o g.1.0 k.items;
-        queues = at_queues (λ i r. QueueKept r (length (w.log ++ events.Queue o j ∷ [])) now.awaited) f qs j inside pushed_kept
-            (λ i apart. queue_kept (queue_at qs i) (length w.log) (length (w.log ++ events.Queue o j ∷ [])) now.awaited now.awaited (longer (events.Queue o j ∷ [])) (λ p e. e) (k.queues i));
-        awaits_open = k.awaits_open;
-        retiring = set_places os' after' x'
-            (retire_here qs j f inside os' count u o due.Free refl (g.0, g.1.3 ∙ sym given))
-            (λ v apart. retire_marked w.objects m after' count v (updater_at w.updaters v).place (other_object g.1.1 v apart) (retire_apart qs j f inside w.objects count v (updater_at w.updaters v).place (other_holder g.0 v apart) (k.retiring v)));
-        working = at_queues (λ i r. WorkAt r now.asked now.awaited now.asked_sections (worker_at w.workers i)) f qs j inside (k.working j) (λ i apart. k.working i);
-        barring = at_updaters (λ v y. BarKept after' now.noted now.cleared now.noted_objects y.place) w.updaters u x' t.inside tt
-            (λ v apart. bar_over qs after' now.noted now.cleared now.noted_objects now.noted_objects (updater_at w.updaters v).place (changed_length f qs j) (λ b p h. (h, λ i s. stays_pushed i s p)) (k.barring v));
-        one_barrier = one_barrier_set w.updaters u x' t.inside (λ n h. h) k.one_barrier;
-        noted_low = k.noted_low;
-        cleared_noted = k.cleared_noted;
-        barriers_low = let low = k.barriers_low in let more = longer (events.Queue o j ∷ []) in omega (arith, low, more);
-      },
+      queue_step f x' (Some m) (length (w.log ++ events.Queue o j ∷ [])) now.retired (o ∷ now.queued) now.awaited (longer w.log (events.Queue o j ∷ []))
+          (items_queued w.objects qs j now.retired now.queued now.reclaimed o inside (life_within w.objects o (λ e. cc (sym g.1.0 ∙ e))) g.1.0 k.items)
+          (at_queues (λ i r. QueueKept r (length (w.log ++ events.Queue o j ∷ [])) now.awaited) f qs j inside pushed_kept
+          (λ i apart. queue_kept (queue_at qs i) (length w.log) (length (w.log ++ events.Queue o j ∷ [])) now.awaited now.awaited (longer w.log (events.Queue o j ∷ [])) (λ p e. e) (k.queues i))) k.awaits_open
+          (retire_here qs j f inside (marked_life w.objects (Some m)) count u o due.Free refl (g.0, g.1.3 ∙ sym given))
+          (λ v apart. retire_marked w.objects m (after f) count v (updater_at w.updaters v).place (other_object g.1.1 v apart) (retire_apart qs j f inside w.objects count v (updater_at w.updaters v).place (other_holder g.0 v apart) (k.retiring v)))
+          (at_queues (λ i r. WorkAt r now.asked now.awaited now.asked_sections (worker_at w.workers i)) f qs j inside (k.working j) (λ i apart. k.working i)) tt (pushed_stays qs j o inside),
     )
       where
         f : QueueState → QueueState
         f = acted (act.Push o)
 
-        after' : List QueueState
-        after' = changed_at f qs j (slice_get qs j)
-
         m : Mark
         m = record { object = o; life = life.Queued }
 
-        os' : List ObjectState
-        os' = marked_life w.objects (Some m)
-
         x' : UpdaterState P
         x' = at_place x (Retires o due.Free)
-
-        within_o : o.0 < length w.objects
-        within_o = life_within w.objects o (λ e. retired_kept (sym g.1.0 ∙ e))
 
         mine : LifeKept life.Retired o now.retired now.queued now.reclaimed
         mine = subst (λ (l : Life). LifeKept l o now.retired now.queued now.reclaimed) g.1.0 (k.items.lives o)
@@ -456,10 +384,6 @@ module _ {P : Type 0} (plans : Plans P) (layout : Layout) (slots : ℕ) (laws : 
           at_rest = λ e. absurd (none_holds g.0 e);
           ready_free = (k.queues j).ready_free;
         }
-
-        stays_pushed : (i s : ℕ) (p : ObjectId) → InQueue (queue_at qs i) s p → InQueue (queue_at after' i) s p
-        stays_pushed i s p = at_queues (λ i r. InQueue (queue_at qs i) s p → InQueue r s p) f qs j inside
-            (λ h. subst (λ (l : Items). Stands q.items.gone l s p) (sym (items_pushed q.items (item_of o))) (stands_left q.items.gone (items_of q.items) (item_of o ∷ []) s p h)) (λ i n h. h) i
 
     pub owes_on : (d : RetireStep) → x.place ≡ Retires o d → Owed (Ok (retire_on w u x o d))
     owes_on d was = by d was (subst (RetireKept w.objects qs count u) (ap (λ (y : UpdaterState P). y.place) t.is ∙ was) (k.retiring u))

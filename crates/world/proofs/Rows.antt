@@ -24,8 +24,8 @@ use Rattle.world.specs.Refusals.{IsStepError}
 use Rattle.world.specs.Row.{Row, refused_if, stalled_if, guarded, after, makes, refused, unreached, tried, read_by, made}
 use Rattle.world.specs.Steps.{IsOfReader}
 use Rattle.world.specs.Workers.{is_none_left, first_in, first_fresh, with_core, take_row, ask_for, work_change, run_row, worker_on, is_resting}
-use Rattle.world.proofs.GraceRows.{each_turn, tells}
-use Rattle.world.proofs.Tests.{not_false}
+use Rattle.world.proofs.GraceRows.{TurnRow, Late, each_turn, tells}
+use Rattle.world.proofs.Tests.{not_false, none_is}
 
 pub idle_tells : {P : Type 0} (place : UpdaterPlace P) → is_idle place ≡ true → place ≡ Idle
 idle_tells Idle e = refl
@@ -34,10 +34,6 @@ idle_tells _ e = absurd (true≢false (sym e))
 pub rest_tells : {P : Type 0} (core : WorkerCore P Unit) → is_resting core ≡ true → core ≡ worker.Idle
 rest_tells worker.Idle e = refl
 rest_tells _ e = absurd (true≢false (sym e))
-
-no_copy : (copy : Option ℕ) → is_some copy ≡ false → copy ≡ None
-no_copy None e = refl
-no_copy (Some n) e = absurd (true≢false e)
 
 -- ---- what words, cookies and steps of grace periods are refused by
 
@@ -58,75 +54,33 @@ cookie_fails : (seq : ℕ) → Fails (cookie_for seq)
 cookie_fails seq = whichever (nat_lt seq (2 ^ 62)) _ _ tt tt
 
 module _ {P : Type 0} (plans : Plans P) (w : BoardView P) where
+  turn_fails : (me : Holder) (ask : ℕ) (sync : SyncCore P) (r : Result (GraceStep P) Refusal) → TurnRow plans w me ask sync r → Fails r
+  turn_fails me ask _ _ (Late e late) = subst (λ (r : Result ℕ Refusal). Fails r) late (cookie_fails w.grace.seq)
+  turn_fails me ask _ _ _ = tt
+
   grace_fails : (me : Holder) (ask : ℕ) (sync : SyncCore P) → Fails (grace_row plans w me ask sync)
-  grace_fails me ask = each_turn plans w me ask (λ sync r. Fails r) (λ e late. subst (λ (r : Result ℕ Refusal). Fails r) late (cookie_fails w.grace.seq)) (record {
-    asks = λ c is. tt;
-    blocks = λ c other held. tt;
-    locks = λ c free. tt;
-    finds = λ c up. tt;
-    needs = λ c low. tt;
-    stands = λ from c p grace held asks. tt;
-    ends = λ from grace held asks. tt;
-    goes = λ from c p grace held asks. tt;
-    frees = tt;
-    rests = tt;
-  })
+  grace_fails me ask sync = turn_fails me ask sync (grace_row plans w me ask sync) (each_turn plans w me ask sync)
 
 -- ---- the rows
 
--- a step of a reader
-module _ {P : Type 0} (qsbr : Bool) (layout : Layout) (w : BoardView P) (r : ℕ) (v : ReaderState) (H : ReaderStep → Type 0) where
-  pub record ReaderRows : Type 0 where
+-- a step of a reader, and what holds of each
+module _ {P : Type 0} (qsbr : Bool) (layout : Layout) (w : BoardView P) (r : ℕ) (v : ReaderState) where
+  pub data ReaderRow : ReaderStep → Type 0 where
     -- `lock`, `online` and `quiescent` load; in the general-purpose flavour no section is open then
-    pub copies : v.copy ≡ None → (qsbr ≡ false → (count_of layout v.word == 0) ≡ true) → H (quietly (record v { copy = Some w.grace.word }))
-    pub nests : (word : ℕ) → v.copy ≡ None → qsbr ≡ false → (count_of layout v.word == 0) ≡ false → entered_of layout v.word false ≡ Ok word → H (quietly (with_word v word))
-    pub unnests : (word : ℕ) → v.copy ≡ None → qsbr ≡ false → left_of layout v.word ≡ Ok word → (count_of layout word == 0) ≡ false → H (quietly (with_word v word))
-    pub unlocks : (word : ℕ) → v.copy ≡ None → qsbr ≡ false → left_of layout v.word ≡ Ok word → (count_of layout word == 0) ≡ true → H (telling (events.Close (section_of r v.ordinal)) (closed v word))
-    pub leaves : v.copy ≡ None → qsbr ≡ true → is_online v.word ≡ true → H (telling (events.Close (section_of r v.ordinal)) (closed v 0))
-    pub enters : (copied word : ℕ) → v.copy ≡ Some copied → qsbr ≡ false → entered_of layout v.word (copied == 1) ≡ Ok word → H (telling (events.Open (section_of r (v.ordinal + 1))) (opened v word))
-    pub goes_online : (copied : ℕ) → v.copy ≡ Some copied → qsbr ≡ true → is_online v.word ≡ false → H (go_online_row copied r v)
-    pub announces : (copied : ℕ) → v.copy ≡ Some copied → qsbr ≡ true → is_online v.word ≡ true → H (announce_row copied r v)
-    pub firsts : (c : ℕ) (head : Option ObjectId) → v.copy ≡ None → is_open_in qsbr layout v.word ≡ true → slice_get w.heads c ≡ Some head → H (found_row v head (events.First (section_of r v.ordinal) c head))
-    pub nexts : (o : ObjectId) (x : ObjectState) → v.copy ≡ None → is_open_in qsbr layout v.word ≡ true → v.cursor ≡ Some o → slice_get w.objects o.0 ≡ Some x → H (found_row v x.link (events.Next (section_of r v.ordinal) o x.link))
-    pub touches : (o : ObjectId) → v.copy ≡ None → is_open_in qsbr layout v.word ≡ true → v.cursor ≡ Some o → H (telling (events.Touch (section_of r v.ordinal) o) v)
+    Copies : v.copy ≡ None → (qsbr ≡ false → (count_of layout v.word == 0) ≡ true) → ReaderRow (quietly (record v { copy = Some w.grace.word }))
+    Nests : (word : ℕ) → v.copy ≡ None → qsbr ≡ false → (count_of layout v.word == 0) ≡ false → entered_of layout v.word false ≡ Ok word → ReaderRow (quietly (with_word v word))
+    Unnests : (word : ℕ) → v.copy ≡ None → qsbr ≡ false → left_of layout v.word ≡ Ok word → (count_of layout word == 0) ≡ false → ReaderRow (quietly (with_word v word))
+    Unlocks : (word : ℕ) → v.copy ≡ None → qsbr ≡ false → left_of layout v.word ≡ Ok word → (count_of layout word == 0) ≡ true → ReaderRow (telling (events.Close (section_of r v.ordinal)) (closed v word))
+    Leaves : v.copy ≡ None → qsbr ≡ true → is_online v.word ≡ true → ReaderRow (telling (events.Close (section_of r v.ordinal)) (closed v 0))
+    Enters : (copied word : ℕ) → v.copy ≡ Some copied → qsbr ≡ false → entered_of layout v.word (copied == 1) ≡ Ok word → ReaderRow (telling (events.Open (section_of r (v.ordinal + 1))) (opened v word))
+    GoesOnline : (copied : ℕ) → v.copy ≡ Some copied → qsbr ≡ true → is_online v.word ≡ false → ReaderRow (go_online_row copied r v)
+    Announces : (copied : ℕ) → v.copy ≡ Some copied → qsbr ≡ true → is_online v.word ≡ true → ReaderRow (announce_row copied r v)
+    Firsts : (c : ℕ) (head : Option ObjectId) → v.copy ≡ None → is_open_in qsbr layout v.word ≡ true → slice_get w.heads c ≡ Some head → ReaderRow (found_row v head (events.First (section_of r v.ordinal) c head))
+    Nexts : (o : ObjectId) (x : ObjectState) → v.copy ≡ None → is_open_in qsbr layout v.word ≡ true → v.cursor ≡ Some o → slice_get w.objects o.0 ≡ Some x → ReaderRow (found_row v x.link (events.Next (section_of r v.ordinal) o x.link))
+    Touches : (o : ObjectId) → v.copy ≡ None → is_open_in qsbr layout v.word ≡ true → v.cursor ≡ Some o → ReaderRow (telling (events.Touch (section_of r v.ordinal) o) v)
 
--- what follows of each step from two things that are so of those that have a row
-pub reads_both : {P : Type 0} (qsbr : Bool) (layout : Layout) (w : BoardView P) (r : ℕ) (v : ReaderState) (H H' H'' : ReaderStep → Type 0) → ((step : ReaderStep) → H step → H' step → H'' step) →
-    ReaderRows qsbr layout w r v H → ReaderRows qsbr layout w r v H' → ReaderRows qsbr layout w r v H''
-reads_both qsbr layout w r v H H' H'' f one other = record {
-  copies = λ none zero. f _ (one.copies none zero) (other.copies none zero);
-  nests = λ word none flavour more is. f _ (one.nests word none flavour more is) (other.nests word none flavour more is);
-  unnests = λ word none flavour is more. f _ (one.unnests word none flavour is more) (other.unnests word none flavour is more);
-  unlocks = λ word none flavour is zero. f _ (one.unlocks word none flavour is zero) (other.unlocks word none flavour is zero);
-  leaves = λ none flavour online. f _ (one.leaves none flavour online) (other.leaves none flavour online);
-  enters = λ copied word has flavour is. f _ (one.enters copied word has flavour is) (other.enters copied word has flavour is);
-  goes_online = λ copied has flavour offline. f _ (one.goes_online copied has flavour offline) (other.goes_online copied has flavour offline);
-  announces = λ copied has flavour online. f _ (one.announces copied has flavour online) (other.announces copied has flavour online);
-  firsts = λ c head none open' is. f _ (one.firsts c head none open' is) (other.firsts c head none open' is);
-  nexts = λ o x none open' from is. f _ (one.nexts o x none open' from is) (other.nexts o x none open' from is);
-  touches = λ o none open' from. f _ (one.touches o none open' from) (other.touches o none open' from);
-}
-
-any_read : {P : Type 0} (qsbr : Bool) (layout : Layout) (w : BoardView P) (r : ℕ) (v : ReaderState) → ReaderRows qsbr layout w r v (λ step. Unit {0})
-any_read qsbr layout w r v = record {
-  copies = λ none zero. tt;
-  nests = λ word none flavour more is. tt;
-  unnests = λ word none flavour is more. tt;
-  unlocks = λ word none flavour is zero. tt;
-  leaves = λ none flavour online. tt;
-  enters = λ copied word has flavour is. tt;
-  goes_online = λ copied has flavour offline. tt;
-  announces = λ copied has flavour online. tt;
-  firsts = λ c head none open' is. tt;
-  nexts = λ o x none open' from is. tt;
-  touches = λ o none open' from. tt;
-}
-
-pub reads_by : {P : Type 0} (qsbr : Bool) (layout : Layout) (w : BoardView P) (r : ℕ) (v : ReaderState) (H H' : ReaderStep → Type 0) → ((step : ReaderStep) → H step → H' step) → ReaderRows qsbr layout w r v H → ReaderRows qsbr layout w r v H'
-reads_by qsbr layout w r v H H' f rows = reads_both qsbr layout w r v H (λ step. Unit {0}) H' (λ step h none. f step h) rows (any_read qsbr layout w r v)
-
-pub any_reads : {P : Type 0} (qsbr : Bool) (layout : Layout) (w : BoardView P) (r : ℕ) (v : ReaderState) (H : ReaderStep → Type 0) → ((step : ReaderStep) → H step) → ReaderRows qsbr layout w r v H
-any_reads qsbr layout w r v H f = reads_by qsbr layout w r v (λ step. Unit {0}) H (λ step none. f step) (any_read qsbr layout w r v)
+  abbrev pub ReaderRows : (ReaderStep → Type 0) → Type 0
+  ReaderRows H = (step : ReaderStep) → ReaderRow step → H step
 
 -- events of those who publish, and of those who wait
 abbrev pub IsPublishing : Event → Type 0
@@ -177,61 +131,54 @@ module _ {P : Type 0} (plans : Plans P) (w : BoardView P) where
     NotRun : (k : ℕ) (x : WorkerState P) (tickets : Tickets) (ticket : Ticket) (item : Item Unit) → WorkedAt k x (worker.Runs tickets ticket item) → Lack
     NotCounted : (k : ℕ) (x : WorkerState P) (tickets : Tickets) (ticket : Ticket) → WorkedAt k x (worker.Counts tickets ticket) → Lack
 
-  -- a step of an updater
-  module _ (u : ℕ) (x : UpdaterState P) (F : UpdaterVerb → Change P → Type 0) where
-    pub record UpdaterRows : Type 0 where
-      pub pushes : (c : ℕ) (head : Option ObjectId) → WasAt u x Idle → slice_get w.heads c ≡ Some head → writes w u c ≡ true →
-          F (updater.Push c) (Begin u (record x { place = Publishes (publishing.Push (next_object w)) }) (fresh_object c head))
-      pub replaces : (o : ObjectId) (y : ObjectState) → WasAt u x Idle → linked_by w u (slice_get w.objects o.0) ≡ Some y →
-          F (updater.Replace o) (Begin u (record x { place = Publishes (publishing.Replace o (next_object w)) }) (fresh_object y.chain y.link))
-      pub cuts : (o : ObjectId) (y : ObjectState) → WasAt u x Idle → linked_by w u (slice_get w.objects o.0) ≡ Some y →
-          F (updater.Cut o) (Publish u x (record { chain = y.chain; before = y.before; after = y.link; leaves = Some o; enters = None }) (events.Cut y.chain o))
-      pub pushed : (new : ObjectId) (y : ObjectState) → WasAt u x (Publishes (publishing.Push new)) → slice_get w.objects new.0 ≡ Some y →
-          F updater.GoOn (Publish u (record x { place = Idle }) (record { chain = y.chain; before = None; after = y.link; leaves = None; enters = Some new }) (events.Push y.chain new))
-      pub replaced : (old new : ObjectId) (y : ObjectState) → WasAt u x (Publishes (publishing.Replace old new)) → slice_get w.objects old.0 ≡ Some y →
-          F updater.GoOn (Publish u (record x { place = Idle }) (record { chain = y.chain; before = y.before; after = y.link; leaves = Some old; enters = Some new }) (events.Replace y.chain old new))
-      pub asks : (step : GraceStep P) → WasAt u x Idle → grace_row plans w (holder.Updater u) (w.grace.asks + 1) new_core ≡ Ok step → is_blocked step.answer ≡ false → is_waiting step.answer ≡ false →
-          F updater.Sync (grace_change plans u x (w.grace.asks + 1) step)
-      pub turns : (ask : ℕ) (core : SyncCore P) (step : GraceStep P) → WasAt u x (Syncs ask core) → grace_row plans w (holder.Updater u) ask core ≡ Ok step → is_blocked step.answer ≡ false → is_waiting step.answer ≡ false →
-          F updater.GoOn (grace_change plans u x ask step)
-      pub starts : (cookie : ℕ) → WasAt u x Idle → cookie_for w.grace.seq ≡ Ok cookie →
-          F updater.Start (Grace u (record x { started = Some (record { ask = w.grace.asks + 1; cookie = cookie }) }) (record w.grace { asks = w.grace.asks + 1 }) (Events (events.Ask (w.grace.asks + 1)) None))
-      pub polls : (s : Started) → WasAt u x Idle → x.started ≡ Some s → nat_le s.cookie w.grace.seq ≡ true → F updater.Poll (Grace u (record x { started = None }) w.grace (Events (events.Answer s.ask) None))
-      pub holds : (o : ObjectId) (q : QueueState) → WasAt u x Idle → may_retire w u (slice_get w.objects o.0) ≡ true → slice_get w.queues (queue_of w u) ≡ Some q → is_some q.holder ≡ false →
-          F (updater.Retire o) (Hold u (at_place x (Retires o due.Mark)) (queue_of w u))
-      pub retires : (o : ObjectId) (step : RetireStep) → WasAt u x (Retires o step) → F updater.GoOn (retire_on w u x o step)
-      pub bars : WasAt u x Idle → F updater.Barrier (barrier_row w u x)
-      pub notes : (b : Barrier) (q : ℕ) → WasAt u x (Bars b) → b.due ≡ Note q → F updater.GoOn (Bar u (at_place x (Bars (record b { counts = noted_at w b.counts q; due = after_note w q }))) w.barriers Quiet)
-      pub checks : (b : Barrier) (q : ℕ) → WasAt u x (Bars b) → b.due ≡ Check q → nat_le (get_or b.counts q 0) (finished_in (slice_get w.queues q)) ≡ true → nat_lt (q + 1) (length w.queues) ≡ true →
-          F updater.GoOn (Bar u (at_place x (Bars (record b { due = Check (q + 1) }))) w.barriers Quiet)
-      pub clears : (b : Barrier) (q : ℕ) → WasAt u x (Bars b) → b.due ≡ Check q → nat_le (get_or b.counts q 0) (finished_in (slice_get w.queues q)) ≡ true → nat_lt (q + 1) (length w.queues) ≡ false →
-          F updater.GoOn (Bar u (at_place x Idle) w.barriers (one (events.Clear b.number)))
+  -- a step of an updater, and what holds of each
+  module _ (u : ℕ) (x : UpdaterState P) where
+    pub data UpdaterRow : UpdaterVerb → Change P → Type 0 where
+      ByPush : (c : ℕ) (head : Option ObjectId) → WasAt u x Idle → slice_get w.heads c ≡ Some head → writes w u c ≡ true →
+          UpdaterRow (updater.Push c) (Begin u (record x { place = Publishes (publishing.Push (next_object w)) }) (fresh_object c head))
+      ByReplace : (o : ObjectId) (y : ObjectState) → WasAt u x Idle → linked_by w u (slice_get w.objects o.0) ≡ Some y →
+          UpdaterRow (updater.Replace o) (Begin u (record x { place = Publishes (publishing.Replace o (next_object w)) }) (fresh_object y.chain y.link))
+      ByCut : (o : ObjectId) (y : ObjectState) → WasAt u x Idle → linked_by w u (slice_get w.objects o.0) ≡ Some y →
+          UpdaterRow (updater.Cut o) (Publish u x (record { chain = y.chain; before = y.before; after = y.link; leaves = Some o; enters = None }) (events.Cut y.chain o))
+      ByPushed : (new : ObjectId) (y : ObjectState) → WasAt u x (Publishes (publishing.Push new)) → slice_get w.objects new.0 ≡ Some y →
+          UpdaterRow updater.GoOn (Publish u (record x { place = Idle }) (record { chain = y.chain; before = None; after = y.link; leaves = None; enters = Some new }) (events.Push y.chain new))
+      ByReplaced : (old new : ObjectId) (y : ObjectState) → WasAt u x (Publishes (publishing.Replace old new)) → slice_get w.objects old.0 ≡ Some y →
+          UpdaterRow updater.GoOn (Publish u (record x { place = Idle }) (record { chain = y.chain; before = y.before; after = y.link; leaves = Some old; enters = Some new }) (events.Replace y.chain old new))
+      BySync : (step : GraceStep P) → WasAt u x Idle → grace_row plans w (holder.Updater u) (w.grace.asks + 1) new_core ≡ Ok step → is_blocked step.answer ≡ false → is_waiting step.answer ≡ false →
+          UpdaterRow updater.Sync (grace_change plans u x (w.grace.asks + 1) step)
+      ByTurn : (ask : ℕ) (core : SyncCore P) (step : GraceStep P) → WasAt u x (Syncs ask core) → grace_row plans w (holder.Updater u) ask core ≡ Ok step → is_blocked step.answer ≡ false → is_waiting step.answer ≡ false →
+          UpdaterRow updater.GoOn (grace_change plans u x ask step)
+      ByStart : (cookie : ℕ) → WasAt u x Idle → cookie_for w.grace.seq ≡ Ok cookie →
+          UpdaterRow updater.Start (Grace u (record x { started = Some (record { ask = w.grace.asks + 1; cookie = cookie }) }) (record w.grace { asks = w.grace.asks + 1 }) (Events (events.Ask (w.grace.asks + 1)) None))
+      ByPoll : (s : Started) → WasAt u x Idle → x.started ≡ Some s → nat_le s.cookie w.grace.seq ≡ true → UpdaterRow updater.Poll (Grace u (record x { started = None }) w.grace (Events (events.Answer s.ask) None))
+      ByHold : (o : ObjectId) (q : QueueState) → WasAt u x Idle → may_retire w u (slice_get w.objects o.0) ≡ true → slice_get w.queues (queue_of w u) ≡ Some q → is_some q.holder ≡ false →
+          UpdaterRow (updater.Retire o) (Hold u (at_place x (Retires o due.Mark)) (queue_of w u))
+      ByRetire : (o : ObjectId) (step : RetireStep) → WasAt u x (Retires o step) → UpdaterRow updater.GoOn (retire_on w u x o step)
+      ByBarrier : WasAt u x Idle → UpdaterRow updater.Barrier (barrier_row w u x)
+      ByNote : (b : Barrier) (q : ℕ) → WasAt u x (Bars b) → b.due ≡ Note q → UpdaterRow updater.GoOn (Bar u (at_place x (Bars (record b { counts = noted_at w b.counts q; due = after_note w q }))) w.barriers Quiet)
+      ByCheck : (b : Barrier) (q : ℕ) → WasAt u x (Bars b) → b.due ≡ Check q → nat_le (get_or b.counts q 0) (finished_in (slice_get w.queues q)) ≡ true → nat_lt (q + 1) (length w.queues) ≡ true →
+          UpdaterRow updater.GoOn (Bar u (at_place x (Bars (record b { due = Check (q + 1) }))) w.barriers Quiet)
+      ByClear : (b : Barrier) (q : ℕ) → WasAt u x (Bars b) → b.due ≡ Check q → nat_le (get_or b.counts q 0) (finished_in (slice_get w.queues q)) ≡ true → nat_lt (q + 1) (length w.queues) ≡ false →
+          UpdaterRow updater.GoOn (Bar u (at_place x Idle) w.barriers (one (events.Clear b.number)))
 
+    abbrev pub UpdaterRows : (UpdaterVerb → Change P → Type 0) → Type 0
+    UpdaterRows F = (v : UpdaterVerb) (change : Change P) → UpdaterRow v change → F v change
+
+  module _ (u : ℕ) (x : UpdaterState P) (F : UpdaterVerb → Change P → Type 0) where
     pub any_retires : ((y : UpdaterState P) (q : ℕ) (a : QueueAct) (mark : Option Mark) (answer : Answer) → F updater.GoOn (Retire u y q a mark answer)) → (o : ObjectId) (step : RetireStep) → WasAt u x (Retires o step) → F updater.GoOn (retire_on w u x o step)
     any_retires f o due.Mark at = f _ _ _ _ _
-    any_retires f o due.Count at = f _ _ _ _ _
-    any_retires f o due.Push at = f _ _ _ _ _
-    any_retires f o due.Free at = f _ _ _ _ _
+    any_retires f o _ at = f _ _ _ _ _
 
     -- what is so of each update, and of the steps of retirements
-    pub any_updates : ((v : UpdaterVerb) (change : Change P) → IsUpdate change → F v change) → ((o : ObjectId) (step : RetireStep) → WasAt u x (Retires o step) → F updater.GoOn (retire_on w u x o step)) → UpdaterRows
-    any_updates f retires = record {
-      pushes = λ c head at is mine. f _ _ tt;
-      replaces = λ o y at is. f _ _ tt;
-      cuts = λ o y at is. f _ _ tt;
-      pushed = λ new y at is. f _ _ tt;
-      replaced = λ old new y at is. f _ _ tt;
-      asks = λ step at is goes on. f _ _ (tells plans w (holder.Updater u) (w.grace.asks + 1) (Every IsWaiting) tt (tt, tt) (tt, tt) new_core step is);
-      turns = λ ask core step at is goes on. f _ _ (tells plans w (holder.Updater u) ask (Every IsWaiting) tt (tt, tt) (tt, tt) core step is);
-      starts = λ cookie at is. f _ _ (tt, tt);
-      polls = λ s at is up. f _ _ (tt, tt);
-      holds = λ o q at may is free. f _ _ tt;
-      retires = retires;
-      bars = λ at. f _ _ (tt, tt);
-      notes = λ b q at is. f _ _ tt;
-      checks = λ b q at is up more. f _ _ tt;
-      clears = λ b q at is up last. f _ _ (tt, tt);
-    }
+    pub any_updates : ((v : UpdaterVerb) (change : Change P) → IsUpdate change → F v change) → ((o : ObjectId) (step : RetireStep) → WasAt u x (Retires o step) → F updater.GoOn (retire_on w u x o step)) → UpdaterRows u x F
+    any_updates f retires _ _ (BySync step at is goes on) = f _ _ (tells plans w (holder.Updater u) (w.grace.asks + 1) (Every IsWaiting) tt (tt, tt) (tt, tt) new_core step is)
+    any_updates f retires _ _ (ByTurn ask core step at is goes on) = f _ _ (tells plans w (holder.Updater u) ask (Every IsWaiting) tt (tt, tt) (tt, tt) core step is)
+    any_updates f retires _ _ (ByStart cookie at is) = f _ _ (tt, tt)
+    any_updates f retires _ _ (ByPoll s at is up) = f _ _ (tt, tt)
+    any_updates f retires _ _ (ByRetire o step at) = retires o step at
+    any_updates f retires _ _ (ByBarrier at) = f _ _ (tt, tt)
+    any_updates f retires _ _ (ByClear b q at is up last) = f _ _ (tt, tt)
+    any_updates f retires _ _ _ = f _ _ tt
 
   -- a step of a worker
   module _ (k : ℕ) (x : WorkerState P) (F : WorkerVerb → Change P → Type 0) where
@@ -289,7 +236,7 @@ module _ {P : Type 0} (plans : Plans P) (w : BoardView P) where
         stopped fails e row h go = s.stops (Reader r verb) fails e (read_by r row) h go
 
         fresh : (row : Row ReaderStep) → (v.copy ≡ None → R row) → R (after (refused_if (is_some v.copy) Busy ∷ []) row)
-        fresh row h = stopped (is_some v.copy) Busy row tt (λ free. h (no_copy v.copy free))
+        fresh row h = stopped (is_some v.copy) Busy row tt (λ free. h (none_is v.copy free))
 
         memb : (row : Row ReaderStep) → (plans.qsbr ≡ false → R row) → R (of_memb plans.qsbr row)
         memb row h = stopped plans.qsbr WrongFlavour row tt h
@@ -320,16 +267,16 @@ module _ {P : Type 0} (plans : Plans P) (w : BoardView P) where
         on (Some copied) has some = by plans.qsbr refl
           where
             enter : plans.qsbr ≡ false → (x : Result ℕ Refusal) → entered_of w.layout v.word (copied == 1) ≡ x → Fails x → R (guarded [] (stores (λ word. telling (events.Open (section_of r (v.ordinal + 1))) (opened v word)) x))
-            enter flavour (Ok word) is f = rows.enters copied word has flavour is
+            enter flavour (Ok word) is f = rows _ (Enters copied word has flavour is)
             enter flavour (Err e) is f = s.lacks (Reader r verb) e f (NoEntry r v copied e was has flavour is)
 
             by : (b : Bool) → plans.qsbr ≡ b → R (guarded [] (cond b (Ok (cond (is_online v.word) (announce_row copied r v) (go_online_row copied r v))) (enter_row w.layout copied r v)))
-            by true flavour = which_step (is_online v.word) (announce_row copied r v) (go_online_row copied r v) (λ online. rows.announces copied has flavour online) (λ offline. rows.goes_online copied has flavour offline)
+            by true flavour = which_step (is_online v.word) (announce_row copied r v) (go_online_row copied r v) (λ online. rows _ (Announces copied has flavour online)) (λ offline. rows _ (GoesOnline copied has flavour offline))
             by false flavour = enter flavour (entered_of w.layout v.word (copied == 1)) refl (enter_fails w.layout v.word (copied == 1))
 
         first : (c : ℕ) (head : Option (Option ObjectId)) → v.copy ≡ None → is_open_in plans.qsbr w.layout v.word ≡ true → slice_get w.heads c ≡ head → R (first_row r v c head)
         first c None none open' is = refuses (Reader r verb) NoPlace tt
-        first c (Some head) none open' is = rows.firsts c head none open' is
+        first c (Some head) none open' is = rows _ (Firsts c head none open' is)
 
         next : (from : Option ObjectId) → v.copy ≡ None → is_open_in plans.qsbr w.layout v.word ≡ true → v.cursor ≡ from → R (next_from w r v from)
         next None none open' from = refuses (Reader r verb) NoPlace tt
@@ -337,25 +284,25 @@ module _ {P : Type 0} (plans : Plans P) (w : BoardView P) where
           where
             by : (x : Option ObjectState) → slice_get w.objects o.0 ≡ x → R (next_row r v o x)
             by None is = s.lacks (Reader r verb) NoPlace tt (NoNext r v o was from is)
-            by (Some x) is = rows.nexts o x none open' from is
+            by (Some x) is = rows _ (Nexts o x none open' from is)
 
         touch : (from : Option ObjectId) → v.copy ≡ None → is_open_in plans.qsbr w.layout v.word ≡ true → v.cursor ≡ from → R (tried (touch_row r v from))
         touch None none open' from = refuses (Reader r verb) NoPlace tt
-        touch (Some o) none open' from = rows.touches o none open' from
+        touch (Some o) none open' from = rows _ (Touches o none open' from)
 
         sweep_read : (b : ReaderVerb) → R (reader_line plans.qsbr w r v b)
         sweep_read reader.Lock = fresh (reader_verb plans.qsbr w r v reader.Lock) (λ none. memb (tried (lock_row w.layout w.grace.word v)) (λ flavour.
-            which (count_of w.layout v.word == 0) _ _ (λ zero. rows.copies none (λ _. zero))
-            (λ more. stored _ (entered_of w.layout v.word false) (enter_fails w.layout v.word false) (λ word is. rows.nests word none flavour more is))))
+            which (count_of w.layout v.word == 0) _ _ (λ zero. rows _ (Copies none (λ _. zero)))
+            (λ more. stored _ (entered_of w.layout v.word false) (enter_fails w.layout v.word false) (λ word is. rows _ (Nests word none flavour more is)))))
         sweep_read reader.Unlock = fresh (reader_verb plans.qsbr w r v reader.Unlock) (λ none. memb (tried (unlock_row w.layout r v)) (λ flavour.
             stored _ (left_of w.layout v.word) (leave_fails w.layout v.word)
-            (λ word is. which_step (count_of w.layout word == 0) _ _ (λ zero. rows.unlocks word none flavour is zero) (λ more. rows.unnests word none flavour is more))))
+            (λ word is. which_step (count_of w.layout word == 0) _ _ (λ zero. rows _ (Unlocks word none flavour is zero)) (λ more. rows _ (Unnests word none flavour is more)))))
         sweep_read reader.Online = fresh (reader_verb plans.qsbr w r v reader.Online) (λ none. qsbr (tried (online_row w.grace.word v)) (λ flavour.
-            which (is_online v.word) _ _ (λ online. refuses (Reader r verb) Busy tt) (λ offline. rows.copies none (other_flavour flavour))))
+            which (is_online v.word) _ _ (λ online. refuses (Reader r verb) Busy tt) (λ offline. rows _ (Copies none (other_flavour flavour)))))
         sweep_read reader.Quiescent = fresh (reader_verb plans.qsbr w r v reader.Quiescent) (λ none. qsbr (tried (quiescent_row w.grace.word v)) (λ flavour.
-            which (is_online v.word) _ _ (λ online. rows.copies none (other_flavour flavour)) (λ offline. refuses (Reader r verb) NotOpen tt)))
+            which (is_online v.word) _ _ (λ online. rows _ (Copies none (other_flavour flavour))) (λ offline. refuses (Reader r verb) NotOpen tt)))
         sweep_read reader.Offline = fresh (reader_verb plans.qsbr w r v reader.Offline) (λ none. qsbr (tried (offline_row r v)) (λ flavour.
-            which (is_online v.word) _ _ (λ online. rows.leaves none flavour online) (λ offline. refuses (Reader r verb) NotOpen tt)))
+            which (is_online v.word) _ _ (λ online. rows _ (Leaves none flavour online)) (λ offline. refuses (Reader r verb) NotOpen tt)))
         sweep_read (reader.First c) = fresh (reader_verb plans.qsbr w r v (reader.First c)) (λ none. section (first_row r v c (slice_get w.heads c)) (λ open'. first c (slice_get w.heads c) none open' refl))
         sweep_read reader.Next = fresh (reader_verb plans.qsbr w r v reader.Next) (λ none. section (next_from w r v v.cursor) (λ open'. next v.cursor none open' refl))
         sweep_read reader.Touch = fresh (reader_verb plans.qsbr w r v reader.Touch) (λ none. section (tried (touch_row r v v.cursor)) (λ open'. touch v.cursor none open' refl))
@@ -377,50 +324,50 @@ module _ {P : Type 0} (plans : Plans P) (w : BoardView P) where
 
         push : (c : ℕ) (head : Option (Option ObjectId)) → WasAt u x Idle → slice_get w.heads c ≡ head → U (updater.Push c) (push_row w u x c head)
         push c None at is = refuses (Updater u (updater.Push c)) NoPlace tt
-        push c (Some head) at is = s.stops (Updater u (updater.Push c)) (not (writes w u c)) NoPlace (makes _) tt (λ mine. rows_of.pushes c head at is (not_false mine))
+        push c (Some head) at is = s.stops (Updater u (updater.Push c)) (not (writes w u c)) NoPlace (makes _) tt (λ mine. rows_of _ _ (ByPush c head at is (not_false mine)))
 
         replace : (o : ObjectId) (y : Option ObjectState) → WasAt u x Idle → linked_by w u (slice_get w.objects o.0) ≡ y → U (updater.Replace o) (replace_row w u x o y)
         replace o None at is = refuses (Updater u (updater.Replace o)) NoPlace tt
-        replace o (Some y) at is = rows_of.replaces o y at is
+        replace o (Some y) at is = rows_of _ _ (ByReplace o y at is)
 
         cut : (o : ObjectId) (y : Option ObjectState) → WasAt u x Idle → linked_by w u (slice_get w.objects o.0) ≡ y → U (updater.Cut o) (cut_row u x o y)
         cut o None at is = refuses (Updater u (updater.Cut o)) NoPlace tt
-        cut o (Some y) at is = rows_of.cuts o y at is
+        cut o (Some y) at is = rows_of _ _ (ByCut o y at is)
 
         lock : (o : ObjectId) (q : Option QueueState) → WasAt u x Idle → may_retire w u (slice_get w.objects o.0) ≡ true → slice_get w.queues (queue_of w u) ≡ q → U (updater.Retire o) (queue_lock_row w u x o q)
         lock o None at may is = s.lacks (Updater u (updater.Retire o)) NoPlace tt (NoQueue u is)
-        lock o (Some q) at may is = s.stalls (Updater u (updater.Retire o)) (is_some q.holder) Blocked (makes _) none refl (λ free. rows_of.holds o q at may is free)
+        lock o (Some q) at may is = s.stalls (Updater u (updater.Retire o)) (is_some q.holder) Blocked (makes _) none refl (λ free. rows_of _ _ (ByHold o q at may is free))
 
         start : (cookie : Result ℕ Refusal) → WasAt u x Idle → cookie_for w.grace.seq ≡ cookie → Fails cookie → U updater.Start (start_row w u x cookie)
-        start (Ok c) at is f = rows_of.starts c at is
+        start (Ok c) at is f = rows_of _ _ (ByStart c at is)
         start (Err e) at is f = refuses (Updater u updater.Start) e f
 
         poll : (y : Option Started) → WasAt u x Idle → x.started ≡ y → U updater.Poll (poll_row w u x y)
         poll None at is = refuses (Updater u updater.Poll) NotOpen tt
-        poll (Some y) at is = s.stalls (Updater u updater.Poll) (not (nat_le y.cookie w.grace.seq)) Wait (makes _) none refl (λ up. rows_of.polls y at is (not_false up))
+        poll (Some y) at is = s.stalls (Updater u updater.Poll) (not (nat_le y.cookie w.grace.seq)) Wait (makes _) none refl (λ up. rows_of _ _ (ByPoll y at is (not_false up)))
 
         publish : (what : Publishing) → WasAt u x (Publishes what) → U updater.GoOn (published w u x what)
         publish (publishing.Push new) at = by (slice_get w.objects new.0) refl
           where
             by : (y : Option ObjectState) → slice_get w.objects new.0 ≡ y → U updater.GoOn (pushed_row u (record x { place = Idle }) new y)
             by None is = s.lacks (Updater u updater.GoOn) NoPlace tt (NoPushed u x new at is)
-            by (Some y) is = rows_of.pushed new y at is
+            by (Some y) is = rows_of _ _ (ByPushed new y at is)
         publish (publishing.Replace old new) at = by (slice_get w.objects old.0) refl
           where
             by : (y : Option ObjectState) → slice_get w.objects old.0 ≡ y → U updater.GoOn (replaced_row u (record x { place = Idle }) old new y)
             by None is = s.lacks (Updater u updater.GoOn) NoPlace tt (NoReplaced u x old new at is)
-            by (Some y) is = rows_of.replaced old new y at is
+            by (Some y) is = rows_of _ _ (ByReplaced old new y at is)
 
         barrier : (b : Barrier) (step : BarrierStep) → WasAt u x (Bars b) → b.due ≡ step → U updater.GoOn (barrier_on w u x b step)
-        barrier b (Note q) at is = rows_of.notes b q at is
+        barrier b (Note q) at is = rows_of _ _ (ByNote b q at is)
         barrier b (Check q) at is = s.stalls (Updater u updater.GoOn) (not (nat_le (get_or b.counts q 0) (finished_in (slice_get w.queues q)))) Wait (makes (checked w u x b q)) none refl (λ up.
-            one_of (Updater u updater.GoOn) (nat_lt (q + 1) (length w.queues)) _ _ (λ more. rows_of.checks b q at is (not_false up) more) (λ last. rows_of.clears b q at is (not_false up) last))
+            one_of (Updater u updater.GoOn) (nat_lt (q + 1) (length w.queues)) _ _ (λ more. rows_of _ _ (ByCheck b q at is (not_false up) more)) (λ last. rows_of _ _ (ByClear b q at is (not_false up) last)))
 
         go_on : (place : UpdaterPlace P) → WasAt u x place → not (is_idle place) ≡ true → U updater.GoOn (updater_on plans w u x place)
         go_on Idle at busy = absurd (true≢false (sym busy))
         go_on (Publishes what) at busy = publish what at
-        go_on (Syncs ask core) at busy = turn (Updater u updater.GoOn) none (grace_change plans u x ask) (grace_row plans w (holder.Updater u) ask core) (grace_fails plans w (holder.Updater u) ask core) (λ step is goes on. rows_of.turns ask core step at is goes on)
-        go_on (Retires o step) at busy = rows_of.retires o step at
+        go_on (Syncs ask core) at busy = turn (Updater u updater.GoOn) none (grace_change plans u x ask) (grace_row plans w (holder.Updater u) ask core) (grace_fails plans w (holder.Updater u) ask core) (λ step is goes on. rows_of _ _ (ByTurn ask core step at is goes on))
+        go_on (Retires o step) at busy = rows_of _ _ (ByRetire o step at)
         go_on (Bars b) at busy = barrier b b.due at refl
 
         sweep_update : (v : UpdaterVerb) → U v (updater_line plans w u x v)
@@ -430,10 +377,10 @@ module _ {P : Type 0} (plans : Plans P) (w : BoardView P) where
         sweep_update (updater.Retire o) = idle (updater.Retire o) (updater_verb plans w u x (updater.Retire o)) (λ at. s.stops (Updater u (updater.Retire o)) (not (may_retire w u (slice_get w.objects o.0))) NoPlace
             (queue_lock_row w u x o (slice_get w.queues (queue_of w u))) tt (λ may. lock o (slice_get w.queues (queue_of w u)) at (not_false may) refl))
         sweep_update updater.Sync = idle updater.Sync (updater_verb plans w u x updater.Sync) (λ at. turn (Updater u updater.Sync) none (grace_change plans u x (w.grace.asks + 1)) (grace_row plans w (holder.Updater u) (w.grace.asks + 1) new_core)
-            (grace_fails plans w (holder.Updater u) (w.grace.asks + 1) new_core) (λ step is goes on. rows_of.asks step at is goes on))
+            (grace_fails plans w (holder.Updater u) (w.grace.asks + 1) new_core) (λ step is goes on. rows_of _ _ (BySync step at is goes on)))
         sweep_update updater.Start = idle updater.Start (updater_verb plans w u x updater.Start) (λ at. start (cookie_for w.grace.seq) at refl (cookie_fails w.grace.seq))
         sweep_update updater.Poll = idle updater.Poll (updater_verb plans w u x updater.Poll) (λ at. poll x.started at refl)
-        sweep_update updater.Barrier = idle updater.Barrier (updater_verb plans w u x updater.Barrier) (λ at. rows_of.bars at)
+        sweep_update updater.Barrier = idle updater.Barrier (updater_verb plans w u x updater.Barrier) (λ at. rows_of _ _ (ByBarrier at))
         sweep_update updater.GoOn = s.stops (Updater u updater.GoOn) (not (not (is_idle x.place))) NotOpen (updater_verb plans w u x updater.GoOn) tt (λ goes. go_on x.place (record { was = was; at = refl }) (not_false goes))
 
       -- workers

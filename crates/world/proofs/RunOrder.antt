@@ -1,5 +1,5 @@
 -- The callbacks of each queue run in the order in which they were queued.
-use Rattle.world.proofs.Cited.{◌≡◌, ◌≢◌, ◌⊎◌, ⊎_elim, ℕ, inl, inr, ◌+◌, ◌%◌, ◌^◌, ◌<◌, ◌≤◌, true, List, [], ◌∷◌, ◌++◌, length, slice_get, Some, None, Ok, refl, sym, ap, ◌∙◌, subst, arith, cons_option, filter_map, mod_below, get_or_from_slice_get, slice_get-get_or, slice_get_within, Event, ObjectId, State, start, after, after_all, has_object, In, in_append, filter_has, runs_of, NoTurn, InTurn, quiet_turn, queued_turn, queued_elsewhere, run_turn, run_elsewhere, Item, Ticket, items_of, without_first, object_with, Layout, SyncCore, Tickets, WorkerCore, new_core, Config, Line, Life, QueueAct, QueueState, Holder, RetireStep, UpdaterPlace, Retires, UpdaterState, WorkerState, Change, Read, is_within_limits, new_worker, empty_queue_state, item_of, acted, held_by, changed_at, acted_at, Plans, BoardView, fresh_at, changed, idle, told, decide_number, life_of, Items, Has, InQueue, has_stands, queue_at, changed_here, changed_else, items_sealed, items_advanced, items_pushed, queued_by, run_by, queued_into, run_from}
+use Rattle.world.proofs.Cited.{◌≡◌, ◌≢◌, ◌⊎◌, ⊎_elim, ℕ, inl, inr, ◌+◌, ◌%◌, ◌^◌, ◌<◌, ◌≤◌, true, List, [], ◌∷◌, ◌++◌, length, slice_get, Some, None, Ok, refl, sym, ap, ◌∙◌, subst, arith, cons_option, filter_map, mod_below, get_or_from_slice_get, slice_get-get_or, slice_get_within, Event, ObjectId, State, start, after, after_all, has_object, In, in_append, filter_has, runs_of, NoTurn, InTurn, quiet_turn, queued_turn, queued_elsewhere, run_turn, run_elsewhere, Item, Ticket, items_of, without_first, object_with, Layout, SyncCore, Tickets, WorkerCore, new_core, Config, Line, Life, QueueAct, QueueState, Holder, RetireStep, UpdaterPlace, Retires, UpdaterState, WorkerState, Change, is_within_limits, new_worker, empty_queue_state, item_of, acted, held_by, changed_at, acted_at, Plans, BoardView, fresh_at, changed, idle, told, decide_number, life_of, Items, Has, InQueue, has_stands, queue_at, changed_here, changed_else, items_sealed, items_advanced, items_pushed, queued_by, run_by, queued_into, run_from}
 use Rattle.rcu_model.specs.declared.event.Event.TheVariants as events
 use Rattle.call_rcu_worker.specs.declared.sync.SyncCore.TheVariants as core
 use Rattle.call_rcu_worker.specs.declared.worker.WorkerCore.TheVariants as worker
@@ -19,7 +19,7 @@ use Rattle.world.specs.Grace.{grace_row}
 use Rattle.world.proofs.GraceRows.{tells}
 use Rattle.world.proofs.Logged.{get_replicate, Logged, always}
 use Rattle.world.proofs.Plain.{AreOther, other_reads}
-use Rattle.world.proofs.Rows.{WasAt, WorkedAt, Law, reads_by}
+use Rattle.world.proofs.Rows.{ByPush, ByReplace, BySync, ByTurn, ByHold, ByRetire, UpdaterRows, WasAt, WorkedAt, Law}
 
 -- ---- the log
 
@@ -27,9 +27,7 @@ use Rattle.world.proofs.Rows.{WasAt, WorkedAt, Law, reads_by}
 stays_reclaimed : (now : State) (e : Event) (o : ObjectId) → In now.reclaimed o → In (after now e).reclaimed o
 stays_reclaimed now (events.Run p) o h = inr h
 stays_reclaimed now (events.First s c None) o h = h
-stays_reclaimed now (events.First s c (Some p)) o h = h
 stays_reclaimed now (events.Next s p None) o h = h
-stays_reclaimed now (events.Next s p (Some q)) o h = h
 stays_reclaimed now _ o h = h
 
 one_reclaimed : (now : State) (e : Event) (es : List Event) (o : ObjectId) → In (runs_of (e ∷ es)) o → In (after now e).reclaimed o ⊎ In (runs_of es) o
@@ -152,10 +150,10 @@ module _ {P : Type 0} (plans : Plans P) (layout : Layout) (slots : ℕ) (laws : 
   not_yet o never h = never (all_reclaimed start w.log o (inr h))
 
   own_queue : (u : ℕ) → queue_of w u < length w.queues
-  own_queue u = let some = l.callbacks.some in mod_below u (length w.queues) (omega (arith, some))
+  own_queue u = let some = l.callbacks.sizes.some in mod_below u (length w.queues) (omega (arith, some))
 
   worker_queue : (k : ℕ) (x : WorkerState P) → slice_get w.workers k ≡ Some x → k < length w.queues
-  worker_queue k x was = subst (λ n. k < n) l.callbacks.manned (slice_get_within w.workers k x was)
+  worker_queue k x was = subst (λ n. k < n) l.callbacks.sizes.manned (slice_get_within w.workers k x was)
 
   its_work : (k : ℕ) (x : WorkerState P) (place : WorkerCore P Unit) → WorkedAt plans w k x place →
       WorkKept (mine k).items.ready (mine k).items.waiting (mine k).items.cookie (mine k).items.gone (mine k).finished now.asked now.awaited now.asked_sections x.ask place
@@ -176,15 +174,12 @@ module _ {P : Type 0} (plans : Plans P) (layout : Layout) (slots : ℕ) (laws : 
   turn_retire u x o due.Count at = quiet w.log w.queues _ _ none (waits_same (acted act.Count) w.queues (queue_of w u) (own_queue u) refl)
   turn_retire u x o due.Free at = quiet w.log w.queues _ _ none (waits_same (acted act.Free) w.queues (queue_of w u) (own_queue u) refl)
   turn_retire u x o due.Push at =
-      queues_one w.log w.queues after' j o (not_yet o (subst (λ (y : Life). LifeKept y o now.retired now.queued now.reclaimed) retired (l.callbacks.items.lives o)).2)
+      queues_one w.log w.queues (acted_at w.queues j (act.Push o)) j o (not_yet o (subst (λ (y : Life). LifeKept y o now.retired now.queued now.reclaimed) retired (l.callbacks.items.lives o)).2)
       (ap waiting_in (changed_here (acted (act.Push o)) w.queues j (own_queue u)) ∙ ap objects_of (items_pushed (mine j).items (item_of o)) ∙ objects_more (items_of (mine j).items) (item_of o))
       (λ q apart. ap waiting_in (changed_else (acted (act.Push o)) w.queues j q apart))
     where
       j : ℕ
       j = queue_of w u
-
-      after' : List QueueState
-      after' = acted_at w.queues j (act.Push o)
 
       retired : life_of w.objects o ≡ life.Retired
       retired =
@@ -201,31 +196,22 @@ module _ {P : Type 0} (plans : Plans P) (layout : Layout) (slots : ℕ) (laws : 
       o : ObjectId
       o = first.1
 
-      none_some : (y : Ticket × ObjectId) → None ≡ Some y → ⊥
-      none_some y e = cc
-
       second : (y z : Ticket × ObjectId) → Some y ≡ Some z → y.1 ≡ z.1
       second y z e = ap (λ (v : Ticket × ObjectId). v.1) (let same : y ≡ z = cc in same)
 
       by : (ready : Items) → (mine k).items.ready ≡ ready → object_with ((mine k).items.gone + 1) ready ≡ Some first →
           AllInTurn w.log w.queues → AllInTurn (w.log ++ events.Run o ∷ []) (acted_at w.queues k act.Pop)
-      by [] e none_first = absurd (none_some first none_first)
-      by (i ∷ rest) e here = runs_first w.log w.queues after' k o
+      by [] e none_first = cc
+      by (i ∷ rest) e here = runs_first w.log w.queues (acted_at w.queues k act.Pop) k o
           (not_yet o (subst (λ (y : Life). LifeKept y o now.retired now.queued now.reclaimed) (queued k (subst (λ os. In os o) (sym was) (inl refl))) (l.callbacks.items.lives o)).2)
-          (was ∙ ap (λ os. o ∷ os) (sym left))
+          (was ∙ ap (λ os. o ∷ os) (sym (ap waiting_in (changed_here (acted act.Pop) w.queues k inside) ∙ ap (λ (r : Items). objects_of (items_of (without_first (mine k).items r))) e)))
           (λ q apart. (ap waiting_in (changed_else (acted act.Pop) w.queues k q apart), λ h. apart (one_queue q h)))
         where
-          after' : List QueueState
-          after' = acted_at w.queues k act.Pop
-
           tail : Items
           tail = rest ++ (mine k).items.waiting ++ (mine k).items.fresh
 
           was : waiting_in (mine k) ≡ o ∷ objects_of tail
           was = ap (λ (r : Items). objects_of (r ++ (mine k).items.waiting ++ (mine k).items.fresh)) e ∙ ap (λ p. p ∷ objects_of tail) (second _ first here)
-
-          left : waiting_in (queue_at after' k) ≡ objects_of tail
-          left = ap waiting_in (changed_here (acted act.Pop) w.queues k inside) ∙ ap (λ (r : Items). objects_of (items_of (without_first (mine k).items r))) e
 
           there : (q : ℕ) → In (waiting_in (mine q)) o → (t : ℕ) × InQueue (mine q) t o
           there q h = has_stands (mine q).items.gone (items_of (mine q).items) o (has_item (items_of (mine q).items) o h)
@@ -239,27 +225,20 @@ module _ {P : Type 0} (plans : Plans P) (layout : Layout) (slots : ℕ) (laws : 
               let t = there k (subst (λ os. In os o) (sym was) (inl refl)) in
               (l.callbacks.items.one_place q k s.0 t.0 o s.1 t.1).0
 
+  turn_updates : (u : ℕ) (x : UpdaterState P) → UpdaterRows plans w u x (λ v. StaysInTurn w)
+  turn_updates u x _ _ (ByPush c head at is own) = λ k. k
+  turn_updates u x _ _ (ByReplace o y at is) = λ k. k
+  turn_updates u x _ _ (BySync step at is goes on) = leaves _ (grace_quiet (holder.Updater u) (w.grace.asks + 1) new_core step is)
+  turn_updates u x _ _ (ByTurn ask sync step at is goes on) = leaves _ (grace_quiet (holder.Updater u) ask sync step is)
+  turn_updates u x _ _ (ByHold o q at may is free) = λ k i. k i ∙ ap (λ os. run_from i w.log ++ os) (sym (waits_same (held_by u) w.queues (queue_of w u) (own_queue u) refl i))
+  turn_updates u x _ _ (ByRetire o step at) = turn_retire u x o step at
+  turn_updates u x _ _ _ = leaves _ (record { runs = refl; queues = λ q. refl })
+
   turn_law : Law plans w (λ line. StaysInTurn w)
   turn_law = record {
     stays = λ line answer never none_told k. k;
-    reads = λ r v verb was. reads_by plans.qsbr w.layout w r v (λ step. AreOther (told step.answer)) (λ step. StaysInTurn w (Read r step)) (λ step other. leaves (told step.answer) (others_run (told step.answer) other)) (other_reads plans.qsbr w.layout w r v);
-    updates = λ u x was. record {
-      pushes = λ c head at is mine k. k;
-      replaces = λ o y at is k. k;
-      cuts = λ o y at is. leaves _ (record { runs = refl; queues = λ q. refl });
-      pushed = λ new y at is. leaves _ (record { runs = refl; queues = λ q. refl });
-      replaced = λ old new y at is. leaves _ (record { runs = refl; queues = λ q. refl });
-      asks = λ step at is goes on. leaves _ (grace_quiet (holder.Updater u) (w.grace.asks + 1) new_core step is);
-      turns = λ ask sync step at is goes on. leaves _ (grace_quiet (holder.Updater u) ask sync step is);
-      starts = λ cookie at is. leaves _ (record { runs = refl; queues = λ q. refl });
-      polls = λ s at is up. leaves _ (record { runs = refl; queues = λ q. refl });
-      holds = λ o q at may is free k i. k i ∙ ap (λ os. run_from i w.log ++ os) (sym (waits_same (held_by u) w.queues (queue_of w u) (own_queue u) refl i));
-      retires = turn_retire u x;
-      bars = λ at. leaves _ (record { runs = refl; queues = λ q. refl });
-      notes = λ b q at is. leaves _ none;
-      checks = λ b q at is up more. leaves _ none;
-      clears = λ b q at is up last. leaves _ (record { runs = refl; queues = λ q. refl });
-    };
+    reads = λ r v verb was step row. leaves (told step.answer) (others_run (told step.answer) (other_reads plans.qsbr w.layout w r v step row));
+    updates = λ u x was. turn_updates u x;
     works = λ k x was. record {
       takes = λ q at is free some. let rests = its_work k x worker.Idle at in
           quiet w.log w.queues _ _ none (waits_same (acted act.Seal) w.queues k (worker_queue k x at.was) (items_sealed (mine k).items rests.0 rests.1));

@@ -137,14 +137,7 @@ module _ {P : Type 0} (w : BoardView P) (r : ℕ) (v : ReaderState) where
 
   reads : (qsbr : Bool) (verb : ReaderVerb) → Tells (by_operation (reads_on verb) (is_some v.copy) (by_section qsbr (is_open_in qsbr w.layout v.word) verb)) false (first_failing (reader_line qsbr w r v verb).tests)
   reads qsbr reader.GoOn = continues (is_some v.copy) None false [] refl
-  reads qsbr reader.Lock = begins (is_some v.copy) (by_section qsbr (is_open_in qsbr w.layout v.word) reader.Lock) false (reader_verb qsbr w r v reader.Lock).tests (verb_tells qsbr reader.Lock)
-  reads qsbr reader.Unlock = begins (is_some v.copy) (by_section qsbr (is_open_in qsbr w.layout v.word) reader.Unlock) false (reader_verb qsbr w r v reader.Unlock).tests (verb_tells qsbr reader.Unlock)
-  reads qsbr reader.Online = begins (is_some v.copy) (by_section qsbr (is_open_in qsbr w.layout v.word) reader.Online) false (reader_verb qsbr w r v reader.Online).tests (verb_tells qsbr reader.Online)
-  reads qsbr reader.Quiescent = begins (is_some v.copy) (by_section qsbr (is_open_in qsbr w.layout v.word) reader.Quiescent) false (reader_verb qsbr w r v reader.Quiescent).tests (verb_tells qsbr reader.Quiescent)
-  reads qsbr reader.Offline = begins (is_some v.copy) (by_section qsbr (is_open_in qsbr w.layout v.word) reader.Offline) false (reader_verb qsbr w r v reader.Offline).tests (verb_tells qsbr reader.Offline)
-  reads qsbr (reader.First c) = begins (is_some v.copy) (by_section qsbr (is_open_in qsbr w.layout v.word) (reader.First c)) false (reader_verb qsbr w r v (reader.First c)).tests (verb_tells qsbr (reader.First c))
-  reads qsbr reader.Next = begins (is_some v.copy) (by_section qsbr (is_open_in qsbr w.layout v.word) reader.Next) false (reader_verb qsbr w r v reader.Next).tests (verb_tells qsbr reader.Next)
-  reads qsbr reader.Touch = begins (is_some v.copy) (by_section qsbr (is_open_in qsbr w.layout v.word) reader.Touch) false (reader_verb qsbr w r v reader.Touch).tests (verb_tells qsbr reader.Touch)
+  reads qsbr verb = begins (is_some v.copy) (by_section qsbr (is_open_in qsbr w.layout v.word) verb) false (reader_verb qsbr w r v verb).tests (verb_tells qsbr verb)
 
 -- ---- steps of grace periods
 
@@ -166,16 +159,13 @@ module _ {P : Type 0} (plans : Plans P) (w : BoardView P) where
 
   fine_told : (sync : SyncCore P) (loaded : ℕ) → Fine (told_of plans.action plans.turn plans.taken sync loaded)
   fine_told core.Asks loaded = fine_ask (cookie_for loaded) (fine_cookie loaded)
-  fine_told (core.Waits c) loaded = tt
   fine_told (core.Checks c) loaded = either (nat_le c loaded) _ _ tt tt
-  fine_told (core.Starts c) loaded = tt
   fine_told (core.Runs c p) loaded = by (plans.turn p loaded)
     where
       by : (turn : Turn) → Fine (turned plans.action c p (plans.taken p loaded) turn)
       by turns.Wait = tt
       by turns.Step = either (is_finished (plans.action (plans.taken p loaded))) _ _ tt tt
-  fine_told core.Frees loaded = tt
-  fine_told core.Done loaded = tt
+  fine_told _ loaded = tt
 
   -- a step that takes no lock
   tells_step : (change : GraceStep P → Change P) (grace : GraceState) (ask : ℕ) (t : Result (Telling P) Refusal) → Fine t → Tells None false (first_failing (sync_row change (stepped grace ask t)).tests)
@@ -183,10 +173,8 @@ module _ {P : Type 0} (plans : Plans P) (w : BoardView P) where
   tells_step change grace ask (Ok t) h = by t.told
     where
       by : (told : Told) → Tells None false (first_failing (sync_row change (Ok (record { core = t.core; grace = grace; answer = answer_to ask told }))).tests)
-      by what.Quiet = refl
-      by what.Asked = refl
-      by what.Answered = refl
       by what.Waiting = waits
+      by _ = refl
 
   tells_sync : (change : GraceStep P → Change P) (me : Holder) (ask : ℕ) (sync : SyncCore P) → Tells None (is_to_lock sync && is_some w.grace.holder) (first_failing (sync_row change (grace_row plans w me ask sync)).tests)
   tells_sync change me ask core.Asks = tells_step change (record w.grace { asks = ask }) ask (asked_with (cookie_for w.grace.seq)) (fine_told core.Asks w.grace.seq)
@@ -278,14 +266,9 @@ module _ {P : Type 0} (plans : Plans P) (w : BoardView P) where
 
     updates : slice_get w.updaters u ≡ Some x → (verb : UpdaterVerb) → Tells (by_operation (updates_on verb) busy (by_cookie verb x.started)) (needs_held_lock w (Updater u verb)) (first_failing (updater_line plans w u x verb).tests)
     updates there updater.GoOn = continues busy None (needs_held_lock w (Updater u updater.GoOn)) (updater_verb plans w u x updater.GoOn).tests (verb_updates there updater.GoOn)
-    updates there (updater.Push c) = begins busy None false (updater_verb plans w u x (updater.Push c)).tests (verb_updates there (updater.Push c))
-    updates there (updater.Replace o) = begins busy None false (updater_verb plans w u x (updater.Replace o)).tests (verb_updates there (updater.Replace o))
-    updates there (updater.Cut o) = begins busy None false (updater_verb plans w u x (updater.Cut o)).tests (verb_updates there (updater.Cut o))
     updates there (updater.Retire o) = begins busy None (needs_held_lock w (Updater u (updater.Retire o))) (updater_verb plans w u x (updater.Retire o)).tests (verb_updates there (updater.Retire o))
-    updates there updater.Sync = begins busy None false (updater_verb plans w u x updater.Sync).tests (verb_updates there updater.Sync)
-    updates there updater.Start = begins busy None false (updater_verb plans w u x updater.Start).tests (verb_updates there updater.Start)
     updates there updater.Poll = begins busy (by_cookie updater.Poll x.started) false (updater_verb plans w u x updater.Poll).tests (verb_updates there updater.Poll)
-    updates there updater.Barrier = begins busy None false (updater_verb plans w u x updater.Barrier).tests (verb_updates there updater.Barrier)
+    updates there verb = begins busy None false (updater_verb plans w u x verb).tests (verb_updates there verb)
 
   -- ---- workers
 
@@ -301,12 +284,9 @@ module _ {P : Type 0} (plans : Plans P) (w : BoardView P) where
     runs tickets (Some first) = refl
 
     works_at : (place : WorkerCore P Unit) → Tells None (core_is_to_lock place && is_some w.grace.holder) (first_failing (worker_on plans w k x place).tests)
-    works_at works.Idle = refl
     works_at (works.Syncs sync tickets) = tells_sync (work_change k (ask_for w x.ask sync) tickets) (holder.Worker k) (ask_for w x.ask sync) sync
     works_at (works.Pops tickets) = runs tickets (first_in (slice_get w.queues k))
-    works_at (works.Runs tickets ticket item) = refl
-    works_at (works.Ran tickets ticket item) = refl
-    works_at (works.Counts tickets ticket) = refl
+    works_at _ = refl
 
     verb_works : slice_get w.workers k ≡ Some x → (verb : WorkerVerb) → Tells None (needs_held_lock w (Worker k verb)) (first_failing (worker_verb plans w k x verb).tests)
     verb_works there worker.Take = takes (slice_get w.queues k) refl
@@ -361,9 +341,7 @@ tells_in (OfQsbr w) line = tells (exact qsbr_plans w) w line
 prompt_free : (answer : Answer) → IsPrompt answer → answer ≢ Blocked
 prompt_free (Events first second) p e = let no : Events first second ≡ Blocked = e in cc
 prompt_free Quiet p e = let no : Quiet ≡ Blocked = e in cc
-prompt_free Wait p e = absurd p
-prompt_free Blocked p e = absurd p
-prompt_free NothingThere p e = absurd p
+prompt_free _ p e = absurd p
 
 module _ (old new : WorldView) (line : Line) where
   stands : (standing : Option Refusal) (locked : Bool) (first : Option (Result Answer Refusal)) (result : Result Answer Refusal) → Tells standing locked first → MeetsTests first old new result → MeetsStanding standing result

@@ -1,5 +1,5 @@
 -- What the world keeps beside the machine: one record of parts.
-use Rattle.world.proofs.Cited.{◌≡◌, ◌≢◌, ◌⊎◌, inl, inr, ⊎_elim, ℕ, ◌+◌, ◌-◌, ◌^◌, ◌<◌, ◌≤◌, ◌==◌, Bool, true, false, List, [], ◌∷◌, ◌++◌, length, get_or, slice_set, Option, Some, None, Result, Ok, Err, refl, sym, ap, ◌∙◌, subst, arith, true≢false, append-nil, get_or-set_other, get_or-set_same, not-true, eqb-false, Event, ObjectId, Refusal, State, AreAllowed, after_all, Layout, count_of, phase_in, number, Shows, SyncCore, ReaderState, ObjectState, Holder, UpdaterPlace, Publishes, Syncs, Started, UpdaterState, Change, Read, Begin, Publish, Grace, Hold, Bar, Stay, WorkerCore, WorkerState, new_worker, Plans, BoardView, idle, told, changed, is_open_in, LinksKept, PlaceKept, decide_number, reader_at, ReadersKept, reader_there}
+use Rattle.world.proofs.Cited.{◌≡◌, ◌≢◌, ◌⊎◌, inl, inr, ⊎_elim, ℕ, ◌+◌, ◌-◌, ◌^◌, ◌<◌, ◌≤◌, ◌==◌, Bool, true, false, List, [], ◌∷◌, ◌++◌, length, get_or, slice_set, Option, Some, None, Result, Ok, Err, refl, sym, ap, subst, arith, true≢false, append-nil, get_or-set_other, get_or-set_same, not-true, eqb-false, Event, ObjectId, Refusal, State, AreAllowed, after_all, Layout, count_of, phase_in, number, Shows, SyncCore, ReaderState, ObjectState, Holder, UpdaterPlace, Publishes, Syncs, Started, UpdaterState, Change, Read, Begin, Publish, Grace, Hold, Bar, Stay, WorkerCore, WorkerState, new_worker, Plans, BoardView, idle, told, changed, is_open_in, LinksKept, PlaceKept, decide_number, reader_at, ReadersKept, reader_there}
 use Rattle.call_rcu_worker.specs.declared.sync.SyncCore.TheVariants as core
 use Rattle.world_state.specs.declared.updater.Holder.TheVariants as holder
 use Rattle.world_state.specs.declared.change.Change.TheVariants.{Retire, Work as Works}
@@ -17,12 +17,7 @@ pub decide_asker : (x y : Asker) → (x ≡ y) ⊎ (x ≢ y)
 decide_asker (Syncing u) (Syncing v) = ⊎_elim (λ (e : u ≡ v). inl (ap Syncing e)) (λ (n : u ≢ v). inr (λ e. n (cc))) (decide_number u v)
 decide_asker (Polling u) (Polling v) = ⊎_elim (λ (e : u ≡ v). inl (ap Polling e)) (λ (n : u ≢ v). inr (λ e. n (cc))) (decide_number u v)
 decide_asker (Working u) (Working v) = ⊎_elim (λ (e : u ≡ v). inl (ap Working e)) (λ (n : u ≢ v). inr (λ e. n (cc))) (decide_number u v)
-decide_asker (Syncing u) (Polling v) = inr (λ e. cc)
-decide_asker (Syncing u) (Working v) = inr (λ e. cc)
-decide_asker (Polling u) (Syncing v) = inr (λ e. cc)
-decide_asker (Polling u) (Working v) = inr (λ e. cc)
-decide_asker (Working u) (Syncing v) = inr (λ e. cc)
-decide_asker (Working u) (Polling v) = inr (λ e. cc)
+decide_asker _ _ = inr (λ e. cc)
 
 -- what each does
 abbrev pub core_work : {P : Type 0} → ℕ → SyncCore P → Work P
@@ -68,6 +63,20 @@ holder_of (Some h) = Some (asker_of h)
 abbrev pub word_at : List ReaderState → ℕ → ℕ
 word_at readers r = (reader_at readers r).word
 
+-- one of a list is set, and what holds of each still holds
+at_each : {X : Type 0} (d : X) (F : ℕ → X → Type 0) (xs : List X) (u : ℕ) (x : X) → u < length xs → F u x → ((v : ℕ) → v ≢ u → F v (get_or xs v d)) → (v : ℕ) → F v (get_or (slice_set xs u x) v d)
+at_each d F xs u x inside mine others v = by (decide_number v u)
+  where
+    by : (v ≡ u) ⊎ (v ≢ u) → F v (get_or (slice_set xs u x) v d)
+    by (inl e) = subst (λ n. F n (get_or (slice_set xs u x) n d)) (sym e) (subst (F u) (sym (get_or-set_same xs u x d inside)) mine)
+    by (inr n) = subst (F v) (sym (get_or-set_other xs u v x d n)) (others v n)
+
+pub at_updaters : {P : Type 0} (F : ℕ → UpdaterState P → Type 0) (updaters : List (UpdaterState P)) (u : ℕ) (x : UpdaterState P) → u < length updaters → F u x → ((v : ℕ) → v ≢ u → F v (updater_at updaters v)) → (v : ℕ) → F v (updater_at (slice_set updaters u x) v)
+at_updaters = at_each idle
+
+pub at_workers : {P : Type 0} (F : ℕ → WorkerState P → Type 0) (workers : List (WorkerState P)) (u : ℕ) (x : WorkerState P) → u < length workers → F u x → ((v : ℕ) → v ≢ u → F v (worker_at workers v)) → (v : ℕ) → F v (worker_at (slice_set workers u x) v)
+at_workers = at_each new_worker
+
 -- a grace period that rests between two lines was asked for, and is not done
 abbrev pub IsUnderWay : {P : Type 0} → SyncCore P → Type 0
 IsUnderWay core.Asks = ⊥
@@ -96,11 +105,15 @@ log_after w (Hold u x q) = sym (append-nil w.log)
 log_after w (Stay answer) = sym (append-nil w.log)
 log_after w _ = refl
 
+-- a world's layout and readers are those that its plans are made for
+pub record Shape (layout : Layout) (slots : ℕ) (mine : Layout) (readers : List ReaderState) : Type 0 where
+  pub laid : mine ≡ layout
+  pub sized : length readers ≡ slots
+  pub some_slot : 1 ≤ slots
+
 module _ {P : Type 0} (plans : Plans P) (layout : Layout) (slots : ℕ) (laws : Laws plans layout slots) where
   pub record Kept (w : BoardView P) (now : State) : Type 0 where
-    pub laid : w.layout ≡ layout
-    pub sized : length w.readers ≡ slots
-    pub some_slot : 1 ≤ slots
+    pub shape : Shape layout slots w.layout w.readers
     pub links_kept : LinksKept w.heads w.objects now.chain now.used now.cut now.successor
     pub places_kept : (u : ℕ) → UpdaterKept w.heads w.objects (length w.updaters) u (updater_at w.updaters u).place
     pub readers_kept : ReadersKept plans.qsbr layout w.readers w.grace.word w.objects now.sections now.seen now.held
@@ -127,7 +140,7 @@ module _ {P : Type 0} (plans : Plans P) (layout : Layout) (slots : ℕ) (laws : 
   pub marks_of : (w : BoardView P) (now : State) → Kept w now → Marks plans layout slots laws decide_asker (word_at w.readers) w.grace.word now.sections
   marks_of w now k s h =
       let mine = k.readers_kept s.reader in (
-        subst (λ n. s.reader < n) k.sized (reader_there plans.qsbr layout w.readers w.grace.word w.objects now.sections now.seen now.held k.readers_kept s h),
+        subst (λ n. s.reader < n) k.shape.sized (reader_there plans.qsbr layout w.readers w.grace.word w.objects now.sections now.seen now.held k.readers_kept s h),
         mark_shown plans.qsbr w.grace.word (word_at w.readers s.reader) (mine.opens s.ordinal h).1 mine.marked,
       )
 
@@ -138,13 +151,9 @@ module _ {P : Type 0} (plans : Plans P) (layout : Layout) (slots : ℕ) (laws : 
     others = others;
   }
     where
-      polls : (v : ℕ) → (v ≡ u) ⊎ (v ≢ u) → (updater_at (slice_set updaters u x) v).started ≡ (updater_at updaters v).started
-      polls v (inl e) = ap (λ n. (updater_at (slice_set updaters u x) n).started) e ∙ ap (λ (y : UpdaterState P). y.started) (get_or-set_same updaters u x idle inside) ∙ same ∙ ap (λ n. (updater_at updaters n).started) (sym e)
-      polls v (inr n) = ap (λ (y : UpdaterState P). y.started) (get_or-set_other updaters u v x idle n)
-
       others : (y : Asker) → y ≢ Syncing u → work_of (slice_set updaters u x) workers y ≡ work_of updaters workers y
       others (Syncing v) apart = ap (λ (y : UpdaterState P). place_work y.place) (get_or-set_other updaters u v x idle (λ e. apart (ap Syncing e)))
-      others (Polling v) apart = ap started_work (polls v (decide_number v u))
+      others (Polling v) apart = ap started_work (at_updaters (λ v y. y.started ≡ (updater_at updaters v).started) updaters u x inside same (λ v other. refl) v)
       others (Working v) apart = refl
 
   -- one updater's cookie is set
@@ -154,11 +163,7 @@ module _ {P : Type 0} (plans : Plans P) (layout : Layout) (slots : ℕ) (laws : 
     others = others;
   }
     where
-      places : (v : ℕ) → (v ≡ u) ⊎ (v ≢ u) → (updater_at (slice_set updaters u x) v).place ≡ (updater_at updaters v).place
-      places v (inl e) = ap (λ n. (updater_at (slice_set updaters u x) n).place) e ∙ ap (λ (y : UpdaterState P). y.place) (get_or-set_same updaters u x idle inside) ∙ same ∙ ap (λ n. (updater_at updaters n).place) (sym e)
-      places v (inr n) = ap (λ (y : UpdaterState P). y.place) (get_or-set_other updaters u v x idle n)
-
       others : (y : Asker) → y ≢ Polling u → work_of (slice_set updaters u x) workers y ≡ work_of updaters workers y
-      others (Syncing v) apart = ap place_work (places v (decide_number v u))
+      others (Syncing v) apart = ap place_work (at_updaters (λ v y. y.place ≡ (updater_at updaters v).place) updaters u x inside same (λ v other. refl) v)
       others (Polling v) apart = ap (λ (y : UpdaterState P). started_work y.started) (get_or-set_other updaters u v x idle (λ e. apart (ap Polling e)))
       others (Working v) apart = refl

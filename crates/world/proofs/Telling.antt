@@ -3,7 +3,7 @@ use Rattle.world.proofs.Cited.{◌≡◌, ℕ, List, [], ◌∷◌, ◌++◌, Re
 use Rattle.std.proofs.lemmas.List.{append-nil}
 use Rattle.world.specs.Shown.{Meets}
 use Rattle.world.specs.Lines.{change_of, with_change, outcome_of, world_after}
-use Rattle.world.proofs.Rows.{IsUpdate, any_reads, any_retires, any_updates, any_works, Each, Law, by_law}
+use Rattle.world.proofs.Rows.{IsUpdate, any_retires, any_updates, any_works, Each, Law, by_law}
 use Rattle.world.specs.Steps.{WorldView, OfMemb, OfQsbr, memb_plans, qsbr_plans, step_of, log_of, fresh_in, world_after_lines, events_of, answered_events}
 
 -- a step that changes nothing tells nothing
@@ -19,7 +19,7 @@ module _ {P : Type 0} (plans : Plans P) (w : BoardView P) where
   silent : Law plans w (λ line. IsSilent)
   silent = record {
     stays = λ line answer never none. none;
-    reads = λ r v verb was. any_reads plans.qsbr w.layout w r v (λ step. Unit {0}) (λ step. tt);
+    reads = λ r v verb was step row. tt;
     updates = λ u x was. any_updates plans w u x (λ v. IsSilent) (λ v. update_silent) (any_retires plans w u x (λ v. IsSilent) (λ y q act mark answer. tt));
     works = λ k x was. any_works plans w k x (λ v. IsSilent) (λ v y grace act mark answer. tt);
   }

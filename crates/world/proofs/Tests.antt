@@ -1,11 +1,15 @@
 -- What comes of a row, by its tests.
-use Rattle.world.proofs.Cited.{◌≡◌, cond, not, Bool, true, false, List, [], ◌∷◌, Option, Some, None, Result, Ok, Err, refl, not-false, Refusal, Answer, Change, BoardView, answer_of}
+use Rattle.world.proofs.Cited.{◌≡◌, cond, not, Bool, true, false, List, [], ◌∷◌, Option, Some, None, Result, Ok, Err, refl, is_some, true≢false, not-false, Refusal, Answer, Change, BoardView, answer_of}
 use Rattle.world.specs.Lines.{Outcome, with_change}
 use Rattle.world.specs.Row.{Test, first_failing, Row, stopped, passed, made}
 use Rattle.world.specs.Steps.{IsPrompt, IsMade}
 
 pub not_false : {b : Bool} → not b ≡ false → b ≡ true
 not_false {b} e = not-false b e
+
+pub none_is : {X : Type 0} (o : Option X) → is_some o ≡ false → o ≡ None
+none_is None e = refl
+none_is (Some x) e = absurd (true≢false e)
 
 -- all tests pass
 abbrev pub Passes : List Test → Type 0

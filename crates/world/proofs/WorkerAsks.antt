@@ -1,5 +1,5 @@
 -- What the grace periods of workers keep, and any line of a worker.
-use Rattle.world.proofs.Cited.{◌≡◌, ⊎_elim, ℕ, true≢false, inl, ◌+◌, ◌<◌, ◌≤◌, leb, cond, true, false, List, [], ◌∷◌, ◌++◌, length, slice_get, slice_set, Option, Some, None, Result, Ok, Err, refl, sym, ap, ◌∙◌, subst, le-leb, Event, ObjectId, SectionId, Refusal, at_number, State, after, In, empty_from, at_number_same, Layout, Item, items_of, given_of, is_due, after_advance, SyncCore, Tickets, WorkerCore, Answer, Events, Quiet, QueueState, GraceState, WorkerState, Change, acted, acted_at, Plans, BoardView, Items, Has, queue_at, has_either, items_advanced}
+use Rattle.world.proofs.Cited.{◌≡◌, ⊎_elim, ℕ, true≢false, inl, ◌+◌, ◌<◌, ◌≤◌, cond, false, List, [], ◌∷◌, ◌++◌, length, slice_get, slice_set, Option, Some, None, Result, Ok, Err, refl, sym, ap, ◌∙◌, subst, le-leb, Event, ObjectId, SectionId, Refusal, at_number, State, after, In, empty_from, at_number_same, Layout, Item, items_of, given_of, is_due, after_advance, SyncCore, Tickets, WorkerCore, Answer, Events, Quiet, QueueState, GraceState, WorkerState, Change, acted, acted_at, Plans, BoardView, Items, Has, queue_at, has_either, items_advanced}
 use Rattle.rcu_model.specs.declared.event.Event.TheVariants as events
 use Rattle.callback_queue.specs.Queue.{Queue}
 use Rattle.call_rcu_worker.specs.declared.sync.SyncCore.TheVariants as core
@@ -16,7 +16,8 @@ use Rattle.world.proofs.Asking.{IsOn, StepKept, Owing, owes_ask, owes_sync}
 use Rattle.world.proofs.Callbacks.{QueueKept, BatchWaits, BatchKept, WorkKept, WorkAt, Callbacks, over_event}
 use Rattle.world.proofs.Plain.{OwesAll}
 use Rattle.world.proofs.Beside.{kept_work, worker_set}
-use Rattle.world.proofs.WorkerSteps.{waits_of, freed_of, asks_of, quiet_step, inside, my_work, work_is, longer, more_kept}
+use Rattle.world.proofs.KeptReaders.{longer}
+use Rattle.world.proofs.WorkerSteps.{waits_of, freed_of, asks_of, quiet_step, inside, my_work, work_is, more_kept}
 
 module _ {P : Type 0} (plans : Plans P) (layout : Layout) (slots : ℕ) (laws : Laws plans layout slots) (w : BoardView P) (now : State) (kept : Kept plans layout slots laws w now) (k : Callbacks w now)
     (n : ℕ) (x : WorkerState P) (at : slice_get w.workers n ≡ Some x) where
@@ -34,9 +35,6 @@ module _ {P : Type 0} (plans : Plans P) (layout : Layout) (slots : ℕ) (laws : 
 
   within : n < length w.workers
   within = inside plans layout slots laws w now kept k n x at
-
-  more : (es : List Event) → length w.log ≤ length (w.log ++ es)
-  more es = longer plans layout slots laws w now kept k n x at es
 
   still_kept : (es : List Event) → QueueKept mine (length (w.log ++ es)) now.awaited
   still_kept es = more_kept plans layout slots laws w now kept k n x at es
@@ -61,9 +59,9 @@ module _ {P : Type 0} (plans : Plans P) (layout : Layout) (slots : ℕ) (laws : 
           Owed (Ok (Works n (record { ask = ask; core = p }) grace act.Leave None Quiet))
       quietly p grace s works' = (
         tt,
-        kept_work plans layout slots laws w now kept n x' (acted_at w.queues n act.Leave) None grace (w.log ++ []) now.asked now.answered now.asked_sections (more []) s.rises s.phase_low s.seq_low s.asks_low
+        kept_work plans layout slots laws w now kept n x' (acted_at w.queues n act.Leave) None grace (w.log ++ []) now.asked now.answered now.asked_sections (longer w.log []) s.rises s.phase_low s.seq_low s.asks_low
             (s.part (work_of w.updaters (slice_set w.workers n x')) (worker_set plans layout slots laws w now kept n x' within)),
-        quiet_step w now k n within (acted act.Leave) x' (length (w.log ++ [])) (more []) refl refl (still_kept []) refl refl refl works',
+        quiet_step w now k n within (acted act.Leave) x' (length (w.log ++ [])) (longer w.log []) refl refl (still_kept []) refl refl refl works',
       )
         where
           x' : WorkerState P
@@ -84,9 +82,9 @@ module _ {P : Type 0} (plans : Plans P) (layout : Layout) (slots : ℕ) (laws : 
           OwesTurn ask (Ok (record { core = core.Waits c; grace = grace; answer = Events (events.Ask ask) None }))
       asks c grace rests is s moves passes = (
         s.allowed,
-        kept_work plans layout slots laws w now kept n x' (acted_at w.queues n (act.Note c)) None grace (w.log ++ events.Ask ask ∷ []) (ask ∷ now.asked) now.answered awaited (more (events.Ask ask ∷ [])) s.rises s.phase_low s.seq_low s.asks_low
+        kept_work plans layout slots laws w now kept n x' (acted_at w.queues n (act.Note c)) None grace (w.log ++ events.Ask ask ∷ []) (ask ∷ now.asked) now.answered awaited (longer w.log (events.Ask ask ∷ [])) s.rises s.phase_low s.seq_low s.asks_low
             (s.part (work_of w.updaters (slice_set w.workers n x')) (worker_set plans layout slots laws w now kept n x' within)),
-        quiet_step w (after now (events.Ask ask)) (over_event w now k (events.Ask ask) tt s.allowed.0) n within (acted (act.Note c)) x' (length (w.log ++ events.Ask ask ∷ [])) (more (events.Ask ask ∷ [])) refl refl
+        quiet_step w (after now (events.Ask ask)) (over_event w now k (events.Ask ask) tt s.allowed.0) n within (acted (act.Note c)) x' (length (w.log ++ events.Ask ask ∷ [])) (longer w.log (events.Ask ask ∷ [])) refl refl
             (record { is_open = q.is_open; given_low = q.given_low; announced = q.announced; at_rest = q.at_rest; ready_free = q.ready_free }) refl refl refl (
               record {
                 none_ready = old.0;
@@ -118,9 +116,9 @@ module _ {P : Type 0} (plans : Plans P) (layout : Layout) (slots : ℕ) (laws : 
           OwesTurn ask (Ok (record { core = core.Frees; grace = grace; answer = Events (events.Answer ask) None }))
       answers c grace pending up none s moves passes = (
         s.allowed,
-        kept_work plans layout slots laws w now kept n x' (acted_at w.queues n (act.Advance grace.seq)) None grace (w.log ++ events.Answer ask ∷ []) now.asked (ask ∷ now.answered) now.asked_sections (more (events.Answer ask ∷ [])) s.rises s.phase_low s.seq_low s.asks_low
+        kept_work plans layout slots laws w now kept n x' (acted_at w.queues n (act.Advance grace.seq)) None grace (w.log ++ events.Answer ask ∷ []) now.asked (ask ∷ now.answered) now.asked_sections (longer w.log (events.Answer ask ∷ [])) s.rises s.phase_low s.seq_low s.asks_low
             (s.part (work_of w.updaters (slice_set w.workers n x')) (worker_set plans layout slots laws w now kept n x' within)),
-        quiet_step w now k n within (acted (act.Advance grace.seq)) x' (length (w.log ++ events.Answer ask ∷ [])) (more (events.Answer ask ∷ []))
+        quiet_step w now k n within (acted (act.Advance grace.seq)) x' (length (w.log ++ events.Answer ask ∷ [])) (longer w.log (events.Answer ask ∷ []))
             (field (λ r. r.gone)) (items_advanced mine.items grace.seq)
             (record {
               is_open = field (λ r. r.closed) ∙ q.is_open;
@@ -142,20 +140,11 @@ module _ {P : Type 0} (plans : Plans P) (layout : Layout) (slots : ℕ) (laws : 
           q : QueueKept mine (length (w.log ++ events.Answer ask ∷ [])) now.awaited
           q = still_kept (events.Answer ask ∷ [])
 
-          reached : leb c grace.seq ≡ true
-          reached = le-leb c grace.seq up
-
-          is_due_now : is_due mine.items.cookie grace.seq ≡ true
-          is_due_now = ap (λ (o : Option ℕ). is_due o grace.seq) b.is_noted ∙ reached
-
           ripe : Queue (Item Unit)
           ripe = record mine.items { ready = mine.items.ready ++ mine.items.waiting; waiting = []; cookie = None }
 
-          advanced_is : after_advance mine.items grace.seq ≡ ripe
-          advanced_is = ap (λ y. cond y ripe mine.items) is_due_now
-
           field : {X : Type 0} (g : Queue (Item Unit) → X) → g (after_advance mine.items grace.seq) ≡ g ripe
-          field g = ap g advanced_is
+          field g = ap g (ap (λ y. cond y ripe mine.items) (ap (λ (o : Option ℕ). is_due o grace.seq) b.is_noted ∙ (le-leb c grace.seq up)))
 
           given : given_of (after_advance mine.items grace.seq) ≡ given_of mine.items
           given = ap (λ m. m + length (items_of (after_advance mine.items grace.seq))) (field (λ r. r.gone)) ∙ ap (λ (l : Items). mine.items.gone + length l) (items_advanced mine.items grace.seq)
@@ -183,8 +172,4 @@ module _ {P : Type 0} (plans : Plans P) (layout : Layout) (slots : ℕ) (laws : 
   pub owes_batch : (place : SyncCore P) (tickets : Tickets) (syncs : x.core ≡ worker.Syncs place tickets) → OwesTurn place tickets syncs (ask_for w x.ask place) (grace_row plans w (holder.Worker n) (ask_for w x.ask place) place)
   owes_batch core.Asks tickets is = owes_ask plans layout slots laws w now kept (holder.Worker n) (w.grace.asks + 1) (OwesTurn core.Asks tickets is (w.grace.asks + 1)) (syncing core.Asks tickets is (w.grace.asks + 1)) (asks_now core.Asks tickets is) refl
   owes_batch core.Done tickets is = absurd (batch core.Done tickets is).0
-  owes_batch (core.Waits c) tickets is = owes_sync plans layout slots laws w now kept (holder.Worker n) x.ask (OwesTurn (core.Waits c) tickets is x.ask) (syncing (core.Waits c) tickets is x.ask) (core.Waits c) (asks_now (core.Waits c) tickets is) tt
-  owes_batch (core.Checks c) tickets is = owes_sync plans layout slots laws w now kept (holder.Worker n) x.ask (OwesTurn (core.Checks c) tickets is x.ask) (syncing (core.Checks c) tickets is x.ask) (core.Checks c) (asks_now (core.Checks c) tickets is) tt
-  owes_batch (core.Starts c) tickets is = owes_sync plans layout slots laws w now kept (holder.Worker n) x.ask (OwesTurn (core.Starts c) tickets is x.ask) (syncing (core.Starts c) tickets is x.ask) (core.Starts c) (asks_now (core.Starts c) tickets is) tt
-  owes_batch (core.Runs c p) tickets is = owes_sync plans layout slots laws w now kept (holder.Worker n) x.ask (OwesTurn (core.Runs c p) tickets is x.ask) (syncing (core.Runs c p) tickets is x.ask) (core.Runs c p) (asks_now (core.Runs c p) tickets is) tt
-  owes_batch core.Frees tickets is = owes_sync plans layout slots laws w now kept (holder.Worker n) x.ask (OwesTurn core.Frees tickets is x.ask) (syncing core.Frees tickets is x.ask) core.Frees (asks_now core.Frees tickets is) tt
+  owes_batch place tickets is = owes_sync plans layout slots laws w now kept (holder.Worker n) x.ask (OwesTurn place tickets is x.ask) (syncing place tickets is x.ask) place (asks_now place tickets is) tt

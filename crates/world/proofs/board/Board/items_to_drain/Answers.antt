@@ -1,4 +1,4 @@
-use Rattle.world.proofs.Cited.{ℕ, ◌∙◌, slice_get, Ok, true≢false, sym, ap, subst, plans_of}
+use Rattle.world.proofs.Cited.{ℕ, ◌∙◌, slice_get, Ok, true≢false, sym, ap, subst}
 use Rattle.std.specs.Prelude.{IsTrue}
 use Rattle.world.specs.Shown.{shown}
 use Rattle.world.proofs.DrainTrail.{drains_fresh}
@@ -6,9 +6,8 @@ use Rattle.world.proofs.board.Board.items_to_drain.Goals as goal
 
 pub returns : goal.returns
 returns g c =
-    let p = g.P.GracePlan in
     ap (λ (s : ℕ × ℕ × ℕ). Ok s.2) c.segments-fresh.ensures
-    ∙ sym (drains_fresh (plans_of p.QSBR g.P.WorldPlan.made p.action p.turn p.taken) p.QSBR (shown c.args.self.now) c.args.worker c.in-Some.state c.in-Some-entry.queue.now
+    ∙ sym (drains_fresh g.P.GracePlan.QSBR (shown c.args.self.now) c.args.worker c.in-Some.state c.in-Some-entry.queue.now
     (sym (c.in-Some.ensures ∙ ap (λ xs. slice_get xs c.args.worker) c.deref.ensures.value))
     (sym (c.in-Some-entry.ensures ∙ ap (λ xs. slice_get xs c.args.worker) c.deref-2.ensures.value))
     (sym c.is_busy.ensures ∙ c.if-is_busy.false)

@@ -1,10 +1,9 @@
-use Rattle.world.proofs.Cited.{◌≡◌, ℕ, Result, sym, ap, ◌∙◌, subst, Refusal}
+use Rattle.world.proofs.Cited.{sym, subst}
 use Rattle.world.specs.declared.world.Boards.{Boards}
 use Rattle.world.specs.declared.world.World.TheInside.{Inside}
-use Rattle.world.specs.Drain.{MeetsDrain}
 use Rattle.world.specs.Seen.{seen}
 use Rattle.world.specs.Shown.{shown}
-use Rattle.world.specs.Steps.{WorldView, OfMemb, OfQsbr, memb_plans, qsbr_plans, IsReachedWorld}
+use Rattle.world.specs.Steps.{memb_plans, qsbr_plans, IsReachedWorld}
 use Rattle.world.proofs.DrainWorld.{memb_drain, qsbr_drain, reached_drain}
 use Rattle.world.proofs.Promises.{drain_log}
 use Rattle.world.proofs.Refusals.{drain_refused}
@@ -20,15 +19,10 @@ invariant_of-self c =
       | in-Qsbr w ↦ subst Kept (sym w.self-inside-is) (reached_drain qsbr_plans c.args.worker (shown w.in-Qsbr.board) (shown w.drain-in-Qsbr.new.self) w.drain-in-Qsbr.result w.drain-in-Qsbr.ensures (subst Reached w.in-Qsbr.is c.self.invariant))
     ]
 
-meets : (k : ℕ) (old old' new new' : WorldView) (r r' : Result ℕ Refusal) → old ≡ old' → new ≡ new' → r ≡ r' → MeetsDrain k old' new' r' → MeetsDrain k old new r
-meets k old old' new new' r r' from to same m = subst (λ (v : WorldView). MeetsDrain k v new r) (sym from) (subst (λ (v : WorldView). MeetsDrain k old' v r) (sym to) (subst (λ (x : Result ℕ Refusal). MeetsDrain k old' new' x) (sym same) m))
-
 pub returns-clause-steps : goal.returns-clause-steps
 returns-clause-steps c = elim c.match-self.branch [
-  | in-Memb w ↦ meets c.args.worker c.args.self.now (OfMemb (shown w.in-Memb.board)) (seen c.match-self.self-inside.boards) (OfMemb (shown w.drain.new.self)) c.match-self.result w.drain.result
-      (sym c.self.view_is ∙ ap seen w.in-Memb.is) (ap (λ (i : Inside). seen i.boards) w.self-inside-is) w.result-is (memb_drain c.args.worker (shown w.in-Memb.board) (shown w.drain.new.self) w.drain.result w.drain.ensures)
-  | in-Qsbr w ↦ meets c.args.worker c.args.self.now (OfQsbr (shown w.in-Qsbr.board)) (seen c.match-self.self-inside.boards) (OfQsbr (shown w.drain-in-Qsbr.new.self)) c.match-self.result w.drain-in-Qsbr.result
-      (sym c.self.view_is ∙ ap seen w.in-Qsbr.is) (ap (λ (i : Inside). seen i.boards) w.self-inside-is) w.result-is (qsbr_drain c.args.worker (shown w.in-Qsbr.board) (shown w.drain-in-Qsbr.new.self) w.drain-in-Qsbr.result w.drain-in-Qsbr.ensures)
+  | in-Memb w ↦ rw (← c.self.view_is, w.in-Memb.is, w.self-inside-is, w.result-is) (memb_drain c.args.worker (shown w.in-Memb.board) (shown w.drain.new.self) w.drain.result w.drain.ensures)
+  | in-Qsbr w ↦ rw (← c.self.view_is, w.in-Qsbr.is, w.self-inside-is, w.result-is) (qsbr_drain c.args.worker (shown w.in-Qsbr.board) (shown w.drain-in-Qsbr.new.self) w.drain-in-Qsbr.result w.drain-in-Qsbr.ensures)
 ]
 
 pub returns-clause-log : goal.returns-clause-log
