@@ -96,7 +96,7 @@ impl<P: GracePlan + Drop, K: ChainRule, B: Site, D: Deleter> Domain<P, K, B, D> 
     /// The caller hears of a log in which the object of a record that was cut is not retired, by a load of the record's
     /// first word. The log comes after all that the caller had seen and heard of.
     pub fn hear_unlinked<W: Caller<B>>(&self, caller: &mut W, unlinked: &mut Unlinked<B>)
-        ensures waits { IsUnretired (object_in unlinked.old.seat.me.0.object) (W.heard caller.new) }
+        ensures unretired { IsUnretired (object_in unlinked.old.seat.me.0.object) (W.heard caller.new) }
         ensures heard { IsAfter P.QSBR K.allows (W.seen caller.old) (W.heard caller.old) (W.heard caller.new) }
         ensures right { KeepsRight unlinked.old.seat.me.0 unlinked.new.seat.me.0 × (unlinked.new.chain ≡ unlinked.old.chain) }
         ensures same { OnlyHears W.Caller caller.old caller.new }

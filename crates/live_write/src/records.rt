@@ -98,7 +98,7 @@ impl<B: Site> Unlinked<B> {
         caller: &mut W,
     )
         requires { (table.now.words.shared.table_id ≡ B.table) × (table.now.words.shared.key ≡ B.sizes) }
-        ensures waits { IsUnretired (object_in self.old.seat.me.0.object) (W.heard caller.new) }
+        ensures unretired { IsUnretired (object_in self.old.seat.me.0.object) (W.heard caller.new) }
         ensures heard { IsAfter P.QSBR K.allows (W.seen caller.old) (W.heard caller.old) (W.heard caller.new) }
         ensures right { KeepsRight self.old.seat.me.0 self.new.seat.me.0 × (self.new.chain ≡ self.old.chain) }
         ensures same { OnlyHears W.Caller caller.old caller.new }

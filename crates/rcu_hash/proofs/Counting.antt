@@ -85,7 +85,7 @@ module _ {W S : Type 0} (w : Ghosts W S) (qsbr : Bool) (allows : Log → LiveEve
   counts_since d chains left seen heard k = record {
     replaced = k.replaced;
     was = k.was;
-    waits = λ o is. during_since w qsbr allows a b c (IsUnretired o) seen heard (k.waits o is);
+    unretired = λ o is. during_since w qsbr allows a b c (IsUnretired o) seen heard (k.unretired o is);
     still = each_map (λ p. During w qsbr allows b c (LinksStill d p)) (λ p. During w qsbr allows a c (LinksStill d p)) (λ p. during_since w qsbr allows a b c (LinksStill d p) seen heard) chains k.still;
     row = k.row;
     rest = k.rest;

@@ -1,5 +1,5 @@
 -- What an earlier directory left is free once a grace period has been waited for, and no part of the table's map.
-use Rattle.rcu_hash.proofs.Cited.Words.{Gv, Bool, ◌≡◌, ◌≢◌, ◌⊎◌, ℕ, ◌+◌, ◌%◌, ◌^◌, ◌<◌, ◌≤◌, List, [], ◌∷◌, ◌++◌, append_assoc, Some, length, map, reverse, take, slice_get, refl, sym, ap, ◌∙◌, subst, inl, inr, ⊎_elim, arith, ∥∥₁_elim, ∥∥₁_map, append-nil, map-append, reverse-append, mod_below, ObjectId, Refusal, In, without_object, Once, at_number_same, in_append, in_left, object_tells, LiveEvent, ChainNote, Close, Object, Cut, Queue, Replace, Retire, Falls, Log, Begins, Has, HaveEnded, IsLiveRun, chain_note, record_of, state_of, HasKey, IsDirectory, IsFree, IsNamed, reserved, tabled, begins_trans, chain_used, falls_cut, has_later, is_noted, kept_log, left_is_freed, linked_between, note_stays, run_of, tabled_maps, hold_at, Look, Stored, Sizes, View, AreAsKnown, IsListed, IsWriter, own_in, Queues, MakesMany, OnlyMakesLast, Stays, more_made, none_made, Ghosts, RefusesRetirement, MayPublish, list_in, KnowsKeys, directed_map, LeavesMap, Writes, bucket_of, FindsMore, AreFreed, FindsFrees, OnlyFrees, Cuts, Clears, Does, Follow, HasWaited, IsLeft, IsRefused, Kind, Retires, Uses, WasReplaced, callbacks_by, callbacks_in, cleared_by, cleared_in, changes_in, objects_in, Each, HasKeysIn, HasNote, IsAlone, IsOutside, Naming, HasRight, LinksStill, length_of}
+use Rattle.rcu_hash.proofs.Cited.Words.{Gv, Bool, ◌≡◌, ◌≢◌, ◌⊎◌, ℕ, ◌+◌, ◌%◌, ◌^◌, ◌<◌, ◌≤◌, List, [], ◌∷◌, ◌++◌, append_assoc, Some, length, map, reverse, take, slice_get, refl, sym, ap, ◌∙◌, subst, inl, inr, ⊎_elim, arith, ∥∥₁_elim, ∥∥₁_map, append-nil, map-append, reverse-append, mod_below, ObjectId, Refusal, In, without_object, Once, at_number_same, in_append, in_left, object_tells, LiveEvent, ChainNote, Close, Object, Cut, Queue, Replace, Retire, Falls, Log, Begins, Has, HaveEnded, IsLiveRun, chain_note, record_of, state_of, HasKey, IsDirectory, IsFree, IsNamed, reserved, tabled, begins_trans, chain_used, falls_cut, has_later, is_noted, kept_log, left_is_freed, linked_between, note_stays, run_of, tabled_maps, hold_at, Look, Stored, Sizes, View, AreAsKnown, IsListed, IsWriter, own_in, Queues, MakesMany, OnlyMakesLast, Stays, more_made, none_made, Ghosts, RefusesRetirement, MayPublish, list_in, KnowsKeys, directed_map, LeavesMap, Writes, bucket_of, AreFreed, FindsFrees, OnlyFrees, Cuts, Clears, Does, Follow, HasWaited, IsLeft, IsRefused, Kind, Retires, Uses, WasReplaced, callbacks_by, callbacks_in, cleared_by, cleared_in, changes_in, objects_in, Each, HasKeysIn, HasNote, IsAlone, IsOutside, Naming, HasRight, LinksStill, length_of, OnlyHears, UsesUp}
 use Rattle.rcu_hash.proofs.Directing.{map_same}
 use Rattle.rcu_hash.proofs.Holds.{each_last, note_listed}
 use Rattle.rcu_hash.proofs.Named.{directed_between, lent_used, unnamed, words_later}
@@ -131,9 +131,6 @@ module _ {W S : Type 0} (w : Ghosts W S) (qsbr : Bool) (allows : Log → LiveEve
   pub refused_why : IsRefused w new (λ n. n ≡ q) e
   refused_why = ⊎_elim (λ closed. inl (closed.0, (q, refl, sym r.told ∙ closed.1))) (λ memory. inr memory.0) r.why
 
-  pub refused_finds : FindsMore w old new
-  refused_finds = (r.same.1, (_ ∷ [], r.looked))
-
   pub refused_frees : FindsFrees w sizes old new
   refused_frees = (r.same.1, (_ ∷ [], r.looked, λ place word h. ⊎_elim (λ is. cc) (λ none. absurd none) h))
 
@@ -141,18 +138,6 @@ module _ {W S : Type 0} (w : Ghosts W S) (qsbr : Bool) (allows : Log → LiveEve
 module _ {W S : Type 0} (w : Ghosts W S) where
   pub makes_frees : (sizes : Sizes) (a b : W) (log : Log) → OnlyMakesLast w a b log → FindsFrees w sizes a b
   makes_frees sizes a b log m = (m.2, ([], m.1, frees_nothing sizes))
-
-  pub frees_finds : (sizes : Sizes) (a b : W) → FindsFrees w sizes a b → FindsMore w a b
-  frees_finds sizes a b f = (f.0, (f.1.0, f.1.1))
-
-  pub finds_both : (a b c : W) → FindsMore w a b → FindsMore w b c → FindsMore w a c
-  finds_both a b c x y = (y.0 ∙ x.0, (y.1.0 ++ x.1.0, y.1.1 ∙ (ap (λ (l : List Look). y.1.0 ++ l) x.1.1 ∙ sym (append_assoc y.1.0 x.1.0 (w.looks a)))))
-
-  pub finds_none : (a : W) → FindsMore w a a
-  finds_none a = (refl, ([], refl))
-
-  pub stays_none : (a : W) → Stays w a a
-  stays_none a = (refl, refl, λ h. h, refl)
 
 -- a retirement is heard of after what came before it
 pub queued_later : (qsbr : Bool) (allows : Log → LiveEvent → Type 0) (at : Log → Type 0) (o : ObjectId) (queue given : ℕ) (callback : Gv) (known log : Log) (r : Queues qsbr allows at o queue given callback log) → Begins known r.before → Begins known log
@@ -227,9 +212,35 @@ module _ (qsbr : Bool) (allows : Log → LiveEvent → Type 0) (sizes : Sizes) (
       only = λ place word h. ⊎_elim (y.only place word) (x.only place word) (in_append y.found x.found (Stored place word) h);
     }
 
-    -- one step
-    pub uses_step : (a b : W) (jobs left used : List D) (heard at log : Log) (k : Kind) (found : List Look) → jobs ≡ left ++ used → callbacks_in ((k, at) ∷ []) ≡ map code (reverse used) → MakesMany w a b (changes_in ((k, at) ∷ [])) → w.looks b ≡ found ++ w.looks a → AreFreed sizes (cleared_in ((k, at) ∷ [])) found → OnlyFrees sizes found → Does qsbr allows sizes d seen heard k at → Begins at log → Uses qsbr allows sizes d seen w code a b jobs left heard log
-    uses_step a b jobs left used heard at log k found are callbacks made looks freed only does before = record { used = used; are = are; steps = (k, at) ∷ []; follow = (does, before); callbacks = callbacks; made = made; found = found; looks = looks; freed = freed; only = only }
+-- a call that uses callbacks, and what came after it
+module _ {D W S : Type 0} {qsbr : Bool} {sizes : Sizes} {d : ℕ} {w : Ghosts W S} {code : D → Gv} where
+  pub uses_up_heard : {a b : W} {jobs left : List D} → UsesUp qsbr sizes d w code a b jobs left → Begins (w.heard a) (w.heard b)
+  uses_up_heard {a} {b} x = heard_on qsbr tabled sizes d (w.seen a) (w.heard a) (w.heard a) (w.heard b) x.uses.steps ([], refl) x.uses.follow
+
+  pub uses_up_on : {a b c : W} {jobs mid left : List D} → UsesUp qsbr sizes d w code a b jobs mid → UsesUp qsbr sizes d w code b c mid left → UsesUp qsbr sizes d w code a c jobs left
+  uses_up_on {a} {b} {c} {jobs} {mid} {left} x y = record {
+    uses = uses_both qsbr tabled sizes d (w.seen a) w code a b c jobs mid left (w.heard a) (w.heard b) (w.heard c) x.uses
+        (subst (λ (seen : Log). Uses qsbr tabled sizes d seen w code b c mid left (w.heard b) (w.heard c)) x.uses.made.made.0 y.uses);
+    loads = y.loads ∙ x.loads;
+  }
+
+  -- none was used
+  pub uses_up_none : (a b : W) (jobs : List D) → Stays w a b → FindsFrees w sizes a b → Begins (w.heard a) (w.heard b) → UsesUp qsbr sizes d w code a b jobs jobs
+  uses_up_none a b jobs stays finds heard = record { uses = uses_none qsbr tabled sizes d (w.seen a) w code a b jobs (w.heard a) (w.heard b) stays finds.1 heard; loads = finds.0 }
+
+  pub uses_up_hears : (a b : W) (jobs : List D) → OnlyHears w a b → Begins (w.heard a) (w.heard b) → UsesUp qsbr sizes d w code a b jobs jobs
+  uses_up_hears a b jobs hears heard = uses_up_none a b jobs hears.0.0 (hears.1, ([], hears.0.1, frees_nothing sizes)) heard
+
+  pub uses_up_same : (a : W) (jobs : List D) → UsesUp qsbr sizes d w code a a jobs jobs
+  uses_up_same a jobs = uses_up_hears a a jobs (((refl, refl, λ h. h, refl), refl), refl) ([], refl)
+
+  -- one step was made
+  pub uses_up_once : (a b : W) (jobs left used : List D) (k : Kind) (at : Log) → jobs ≡ left ++ used → callbacks_in ((k, at) ∷ []) ≡ map code (reverse used) → MakesMany w a b (changes_in ((k, at) ∷ [])) →
+      (finds : FindsFrees w sizes a b) → AreFreed sizes (cleared_in ((k, at) ∷ [])) finds.1.0 → Does qsbr tabled sizes d (w.seen a) (w.heard a) k at → Begins at (w.heard b) → UsesUp qsbr sizes d w code a b jobs left
+  uses_up_once a b jobs left used k at are callbacks made finds freed does before = record {
+    uses = record { used = used; are = are; steps = (k, at) ∷ []; follow = (does, before); callbacks = callbacks; made = made; found = finds.1.0; looks = finds.1.1; freed = freed; only = finds.1.2 };
+    loads = finds.0;
+  }
 
 -- how many objects more chains have
 pub objects_both : (vs ws : List View) → objects_in (vs ++ ws) ≡ objects_in vs + objects_in ws

@@ -1,9 +1,9 @@
 -- Writers of chains that follow one another, by their rights; and the directory for which their chains are reserved.
-use Rattle.rcu_hash.proofs.Cited.Words.{drop-append-le, drop_all, take-append-le, take_all, Bool, ◌≡◌, ◌⊎◌, ℕ, ◌+◌, ◌^◌, ◌<◌, ◌≤◌, List, [], ◌∷◌, ◌++◌, length, map, take, drop, refl, sym, ap, ◌∙◌, subst, append_assoc, inr, ⊎_elim, arith, suc, dite, ℕ_discrete, ObjectId, Look, In, Log, IsLiveRun, chain_note, state_of, IsDirectory, IsFree, MayDirect, Names, reserved, tabled, begins_trans, unnoted_free, ChainRight, View, AreAsKnown, cell_in, object_in, own_in, payload_in, MayPublish, push_by, words_by, AreFrom, Each, HasKeysIn, HasNote, HasNothing, lengths_of, rights_of, length-map, append-nil, map-append, Begins, lent_chains, SawBefore, length_of, chain_used, note_stays, run_of, record_of, HasKey, value_at, KeepLists, value_same, value_in, IsListed, list_in, zero, slice_get, common_steps}
+use Rattle.rcu_hash.proofs.Cited.Words.{drop-append-le, drop_all, take-append-le, take_all, Bool, ◌≡◌, ◌⊎◌, ℕ, ◌+◌, ◌^◌, ◌<◌, ◌≤◌, List, [], ◌∷◌, ◌++◌, length, map, take, drop, refl, sym, ap, ◌∙◌, subst, append_assoc, inr, ⊎_elim, arith, suc, dite, ℕ_discrete, ObjectId, In, Log, IsLiveRun, chain_note, state_of, IsDirectory, IsFree, MayDirect, Names, reserved, tabled, begins_trans, unnoted_free, ChainRight, View, AreAsKnown, cell_in, object_in, own_in, payload_in, MayPublish, push_by, words_by, AreFrom, Each, HasKeysIn, HasNote, HasNothing, lengths_of, rights_of, length-map, append-nil, map-append, Begins, lent_chains, SawBefore, length_of, chain_used, note_stays, run_of, record_of, HasKey, value_at, KeepLists, value_same, value_in, IsListed, list_in, zero, slice_get, common_steps}
 
 -- what was looked at, and then more
-pub looks_both : (old middle new : List Look) (one two : List Look) → middle ≡ one ++ old → new ≡ two ++ middle → new ≡ (two ++ one) ++ old
-looks_both old middle new one two a b = b ∙ (ap (λ (l : List Look). two ++ l) a ∙ sym (append_assoc two one old))
+pub looks_both : {A : Type 0} (old middle new one two : List A) → middle ≡ one ++ old → new ≡ two ++ middle → new ≡ (two ++ one) ++ old
+looks_both {A} old middle new one two a b = b ∙ (ap (λ (l : List A). two ++ l) a ∙ sym (append_assoc two one old))
 
 -- what is so of each is so of each in other words
 pub each_map : {X : Type 0} (P Q : X → Type 0) → ((x : X) → P x → Q x) → (xs : List X) → Each P xs → Each Q xs

@@ -54,9 +54,6 @@ module _ (buckets : ℕ) (had_in : Log → ℕ → Option ℕ → Type 0) where
 
 -- where the words lead
 module _ (chains kind first buckets : ℕ) where
-  pub led_all : (key : ℕ) → leads_to chains kind first buckets key ≡ true → (kind ≡ 1) × (0 < buckets) × (bucket_of first buckets key < chains)
-  led_all key led = grind (arith, nat_tests)
-
   -- the bucket of a number below theirs is that of each key with this remainder
   module _ (number : ℕ) (low : number < buckets) where
     pub same_bucket : (key : ℕ) → key % buckets ≡ number → bucket_of first buckets key ≡ bucket_of first buckets number

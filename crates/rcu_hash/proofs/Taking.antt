@@ -1,6 +1,6 @@
 -- What the keys of buckets tell that are taken one after the other.
-use Rattle.rcu_hash.proofs.Cited.Words.{◌≡◌, ◌≢◌, ℕ, ◌+◌, ◌%◌, ◌<◌, ◌≤◌, ◌==◌, Bool, false, if◌then◌else◌, List, [], ◌∷◌, ◌++◌, length, Some, slice_get, refl, sym, ap, ◌∙◌, append_assoc, subst, inl, inr, ⊎_elim, arith, cases_lt, dite, ℕ_discrete, In, in_append, in_left, LiveEvent, Log, Begins, begins_trans, hold_at, Look, Loaded, Stored, Sizes, IsAfter, Ghosts, value_among, During, FindsFree, FindsTaken, IsInUse, IsUnused, IsAmong, are_apart, Result, Err, IfErr, IfOk, Refusal, PoolFull, cell_at, last_at, stores_in, GetsNoRecord, TakesRecord, FreesAll, FreesAllBut, IsLeftZero, KeepsNone, OnlyFrees, nat_tests, common_steps, gets, Option}
-use Rattle.rcu_hash.proofs.Copies.{found_more, none_free}
+use Rattle.rcu_hash.proofs.Cited.Words.{◌≡◌, ◌≢◌, ℕ, ◌+◌, ◌%◌, ◌<◌, ◌≤◌, ◌==◌, Bool, false, if◌then◌else◌, List, [], ◌∷◌, ◌++◌, length, Some, slice_get, refl, sym, ap, subst, inl, inr, ⊎_elim, arith, cases_lt, dite, ℕ_discrete, In, in_append, in_left, LiveEvent, Log, Begins, begins_trans, hold_at, Look, Loaded, Stored, Sizes, IsAfter, Ghosts, value_among, During, FindsFree, FindsTaken, IsInUse, IsUnused, IsAmong, are_apart, Refusal, PoolFull, cell_at, last_at, stores_in, GetsNoRecord, TakesRecord, FreesAll, FreesAllBut, IsLeftZero, OnlyFrees, nat_tests, common_steps, gets, Option, Looked, GivesUp, KeepsNone, OnlyHears, Stays, stays_both}
+use Rattle.rcu_hash.proofs.Copies.{found_before, found_more, none_free}
 use Rattle.rcu_hash.proofs.Holds.{looks_both}
 
 get_last : {X : Type 0} (xs : List X) (x : X) → slice_get (xs ++ x ∷ []) (length xs) ≡ Some x
@@ -29,6 +29,9 @@ module _ {W S : Type 0} (w : Ghosts W S) (qsbr : Bool) (allows : Log → LiveEve
 
   pub during_earlier : (is_so : Log → Type 0) → Begins (w.heard mid) (w.heard new) → During w qsbr allows old mid is_so → During w qsbr allows old new is_so
   during_earlier is_so goes d = record { at = d.at; after = d.after; before = begins_trans d.at (w.heard mid) (w.heard new) d.before goes; so = d.so }
+
+  pub free_earlier : (is_one : ℕ → Type 0) → Begins (w.heard mid) (w.heard new) → FindsFree w qsbr allows old mid is_one → FindsFree w qsbr allows old new is_one
+  free_earlier is_one goes free c one = during_earlier (IsUnused c) goes (free c one)
 
   -- one more chain was unused
   pub free_more : (first n : ℕ) → Begins (w.heard mid) (w.heard new) → IsAfter qsbr allows (w.seen old) (w.heard old) (w.heard new) → FindsFree w qsbr allows old mid (IsAmong first n) → IsUnused (first + n) (w.heard new) → FindsFree w qsbr allows old new (IsAmong first (n + 1))
@@ -74,20 +77,6 @@ in_both a m b n some more apart =
     let both : (b < a + m) × (a < b + n) = grind (arith, nat_tests) in
     ⊎_elim (λ (under : b < a). (a, (omega arith, omega arith), (omega arith, omega arith))) (λ (over : a ≤ b). (b, (omega arith, omega arith), (omega arith, omega arith))) (cases_lt b a)
 
--- what the looks and loads of one part of a call tell, and of one after the other
-module _ {W S : Type 0} (w : Ghosts W S) where
-  abbrev pub Told : W → W → Type 0
-  Told a b = ((found : List Look) × (w.looks b ≡ found ++ w.looks a)) × ((logs : List Log) × (w.loads b ≡ logs ++ w.loads a))
-
-  pub told_looks : (a b : W) (found : List Look) → w.looks b ≡ found ++ w.looks a → w.loads b ≡ w.loads a → Told a b
-  told_looks a b found looks loads = ((found, looks), ([], loads))
-
-  pub told_both : (a b c : W) → Told a b → Told b c → Told a c
-  told_both a b c one two = (
-    (two.0.0 ++ one.0.0, looks_both (w.looks a) (w.looks b) (w.looks c) one.0.0 two.0.0 one.0.1 two.0.1),
-    (two.1.0 ++ one.1.0, two.1.1 ∙ (ap (λ (l : List Log). two.1.0 ++ l) one.1.1 ∙ sym (append_assoc two.1.0 one.1.0 (w.loads a)))),
-  )
-
 stores_both : (xs ys : List Look) → stores_in (xs ++ ys) ≡ stores_in xs ++ stores_in ys
 stores_both [] ys = refl
 stores_both (Loaded a n ∷ xs) ys = stores_both xs ys
@@ -111,17 +100,7 @@ module _ (key : Sizes) (found more : List Look) where
       (λ (last : IsLeftZero (cell_at key i 0) (stores_in more)). ⊎_elim (λ (was : In kept i). inl (goes i was)) (λ zero. inr (zero_more i zero last)) (h i))
       (k i)
 
-  pub but_after : (all : List ℕ) → FreesAll key found → FreesAllBut key all more → FreesAllBut key all (more ++ found)
-  but_after all h k = but_both [] all (λ i none. absurd none) (λ i. inr (h i)) k
-
-  -- a call that keeps none is refused after one that freed all
-  pub none_after : (e : Refusal) → FreesAll key found → KeepsNone key e more → KeepsNone key e (more ++ found)
-  none_after e h k = (λ full. found_more key more found (k.0 full), frees_both h k.1)
-
 module _ (key : Sizes) where
-  pub frees_but : (kept : List ℕ) (found : List Look) → FreesAll key found → FreesAllBut key kept found
-  frees_but kept found h i = inr (h i)
-
   pub but_weaker : (kept all : List ℕ) → ((i : ℕ) → In kept i → In all i) → (found : List Look) → FreesAllBut key kept found → FreesAllBut key all found
   but_weaker kept all goes found h i = ⊎_elim (λ (was : In kept i). inl (goes i was)) (λ zero. inr zero) (h i)
 
@@ -137,25 +116,9 @@ module _ (key : Sizes) where
       (λ full. subst (IsLeftZero (cell_at key i 0)) (sym full.1.1.stores) (inr (λ (same : last_at key ≡ cell_at key i 0). omega (arith, same), tt)))
       none
 
-  pub keeps_none : (e : Refusal) (found : List Look) → GetsNoRecord key found → KeepsNone key e found
-  keeps_none e found none = (λ full. none_free key found none, none_taken found none)
-
-  -- a call that keeps none is refused by another one's refusal, which is not that of a full pool
-  pub none_as : {A : Type 0} (P : A → Type 0) (found : List Look) (r : Result A Refusal) (x e : Refusal) → r ≡ Err x → x ≡ e → KeepsNone key e found → IfOk r P × IfErr r (λ y. KeepsNone key y found)
-  none_as P found r x e is same none = rw is (tt, subst (λ (y : Refusal). KeepsNone key y found) (sym same) none)
-
-  pub not_full : {A : Type 0} (P : A → Type 0) (found : List Look) (r : Result A Refusal) (x e : Refusal) → r ≡ Err x → x ≡ e → e ≢ PoolFull → FreesAll key found → IfOk r P × IfErr r (λ y. KeepsNone key y found)
-  not_full P found r x e is same other frees = none_as P found r x e is same (λ full. absurd (other full), frees)
-
-  -- the words that were found and stored are hold words of chains
+  -- the words that were found and stored are hold words of a chain, or of chains
   pub holds_none : (chain : ℕ) → chain < key.chains → FreesAll key (Stored (hold_at key chain) 1 ∷ Loaded (hold_at key chain) 0 ∷ [])
   holds_none chain low i = inr (λ (same : hold_at key chain ≡ cell_at key i 0). omega (arith, low, same), tt)
-
-  pub holds_free : (chains : ℕ) → chains ≤ key.chains → (found : List Look) → AreHoldsOf key (λ c. c < chains) found → FreesAll key found
-  holds_free chains fits [] holds i = tt
-  holds_free chains fits (Loaded a n ∷ found) holds i = holds_free chains fits found (λ x h. holds x (inr h)) i
-  holds_free chains fits (Stored a n ∷ found) holds i = let k = holds (Stored a n) (inl refl) in let low = k.1 in let place = k.2 in
-      inr (λ (same : a ≡ cell_at key i 0). omega (arith, fits, low, place, same), holds_free chains fits found (λ x h. holds x (inr h)) i)
 
   pub only_free : (found : List Look) → OnlyFrees key found → FreesAll key found
   only_free [] only i = tt
@@ -171,3 +134,67 @@ module _ (key : Sizes) where
       (λ (one : In (cell ∷ kept) i). ⊎_elim (λ is. absurd (apart is)) (λ more. inl more) one)
       (λ (zero : IsLeftZero (cell_at key i 0) (stores_in found)). inr (inr (λ (same : cell_at key cell 0 ≡ cell_at key i 0). apart (omega (arith, same)), zero)))
       (h i))
+
+-- a part of a call that made no change, and what came after it
+module _ {W S : Type 0} {w : Ghosts W S} {key : Sizes} where
+  abbrev pub looked_none : (a : W) → Looked w key [] [] a a
+  looked_none a = record { stays = (refl, refl, (λ h. h), refl); heard = ([], refl); loads = refl; found = []; looks = refl; freed = λ i. inr tt }
+
+  abbrev pub looked_more : {kept all : List ℕ} {logs : List Log} {a b : W} → ((i : ℕ) → In kept i → In all i) → Looked w key kept logs a b → Looked w key all logs a b
+  looked_more {kept} {all} goes x = record { stays = x.stays; heard = x.heard; loads = x.loads; found = x.found; looks = x.looks; freed = but_weaker key kept all goes x.found x.freed }
+
+  abbrev pub looked_on : {kept all : List ℕ} {xs ys : List Log} {a b c : W} → ((i : ℕ) → In kept i → In all i) → Looked w key kept xs a b → Looked w key all ys b c → Looked w key all (ys ++ xs) a c
+  looked_on {kept} {all} {xs} {ys} {a} {b} {c} goes x y = record {
+    stays = stays_both w a b c x.stays y.stays;
+    heard = begins_trans (w.heard a) (w.heard b) (w.heard c) x.heard y.heard;
+    loads = looks_both (w.loads a) (w.loads b) (w.loads c) xs ys x.loads y.loads;
+    found = y.found ++ x.found;
+    looks = looks_both (w.looks a) (w.looks b) (w.looks c) x.found y.found x.looks y.looks;
+    freed = but_both key x.found y.found kept all goes x.freed y.freed;
+  }
+
+  abbrev pub looked_then : {all : List ℕ} {xs ys : List Log} {a b c : W} → Looked w key [] xs a b → Looked w key all ys b c → Looked w key all (ys ++ xs) a c
+  looked_then x y = looked_on (λ i none. absurd none) x y
+
+  pub gives_up_on : {kept all : List ℕ} {xs ys : List Log} {e : Refusal} {a b c : W} → ((i : ℕ) → In kept i → In all i) → Looked w key kept xs a b → GivesUp w key all ys e b c → GivesUp w key all (ys ++ xs) e a c
+  gives_up_on goes x y = (looked_on goes x y.0, λ full. found_more key y.0.found x.found (y.1 full))
+
+  pub gives_up_keeping : {kept : List ℕ} {xs ys : List Log} {e : Refusal} {a b c : W} → Looked w key kept xs a b → GivesUp w key [] ys e b c → GivesUp w key kept (ys ++ xs) e a c
+  gives_up_keeping x y = (looked_on (λ i h. h) x (looked_more (λ i none. absurd none) y.0), λ full. found_more key y.0.found x.found (y.1 full))
+
+  pub gives_up_more : {kept all : List ℕ} {logs : List Log} {e : Refusal} {a b : W} → ((i : ℕ) → In kept i → In all i) → GivesUp w key kept logs e a b → GivesUp w key all logs e a b
+  gives_up_more goes x = (looked_more goes x.0, x.1)
+
+  -- nothing was found
+  abbrev pub looked_hears : (a b : W) → OnlyHears w a b → Begins (w.heard a) (w.heard b) → Looked w key [] [] a b
+  looked_hears a b hears heard = record { stays = hears.0.0; heard = heard; loads = hears.1; found = []; looks = hears.0.1; freed = λ i. inr tt }
+
+  -- a record was taken, or none
+  pub took_one : (cell n : ℕ) (a b : W) → Stays w a b × (w.loads b ≡ w.loads a) → Begins (w.heard a) (w.heard b) → (found : List Look) → w.looks b ≡ found ++ w.looks a → TakesRecord key cell n found → Looked w key (cell ∷ []) [] a b
+  took_one cell n a b same heard found looks took = record { stays = same.0; heard = heard; loads = same.1; found = found; looks = looks; freed = keeps_one key cell n found took }
+
+  pub took_none : (e : Refusal) (a b : W) → Stays w a b × (w.loads b ≡ w.loads a) → Begins (w.heard a) (w.heard b) → (found : List Look) → w.looks b ≡ found ++ w.looks a → GetsNoRecord key found → GivesUp w key [] [] e a b
+  took_none e a b same heard found looks none = (record { stays = same.0; heard = heard; loads = same.1; found = found; looks = looks; freed = λ i. inr (none_taken key found none i) }, λ full. none_free key found none)
+
+  -- it is refused, but for no full pool
+  pub gives_up_other : {kept : List ℕ} {logs : List Log} {e : Refusal} {a b : W} → e ≢ PoolFull → Looked w key kept logs a b → GivesUp w key kept logs e a b
+  gives_up_other other x = (x, λ full. absurd (other full))
+
+  -- and it frees the first record that it kept
+  pub gives_up_less : (cell : ℕ) (kept : List ℕ) (logs : List Log) (log : Log) (e : Refusal) (a b c : W) → GivesUp w key (cell ∷ kept) logs e a b →
+      Stays w b c → Begins (w.heard b) (w.heard c) → w.loads c ≡ log ∷ w.loads b → w.looks c ≡ Stored (cell_at key cell 0) 0 ∷ w.looks b → GivesUp w key kept (log ∷ logs) e a c
+  gives_up_less cell kept logs log e a b c x stays heard loads looks = (
+    record {
+      stays = stays_both w a b c x.0.stays stays;
+      heard = begins_trans (w.heard a) (w.heard b) (w.heard c) x.0.heard heard;
+      loads = looks_both (w.loads a) (w.loads b) (w.loads c) logs (log ∷ []) x.0.loads loads;
+      found = Stored (cell_at key cell 0) 0 ∷ x.0.found;
+      looks = looks_both (w.looks a) (w.looks b) (w.looks c) x.0.found (Stored (cell_at key cell 0) 0 ∷ []) x.0.looks looks;
+      freed = frees_one key cell kept x.0.found x.0.freed;
+    },
+    λ full. found_before key (Stored (cell_at key cell 0) 0 ∷ []) x.0.found (x.1 full),
+  )
+
+  -- what that tells of the records that a call keeps
+  pub keeps_none_of : {logs : List Log} {e : Refusal} {a b : W} → GivesUp w key [] logs e a b → (found : List Look) × (w.looks b ≡ found ++ w.looks a) × Unit {0} × KeepsNone key e found
+  keeps_none_of x = (x.0.found, x.0.looks, tt, (x.1, λ i. ⊎_elim (λ none. absurd none) (λ zero. zero) (x.0.freed i)))

@@ -3,10 +3,12 @@ use Rattle.std.specs.Prelude.{◌≡◌, ◌≢◌, ◌⊎◌, ℕ, ◌++◌, Li
 use Rattle.rcu_model.specs.Sets.{In}
 use Rattle.rcu_model.specs.declared.refusal.Refusal.{Refusal}
 use Rattle.rcu_model.specs.declared.refusal.Refusal.TheVariants.{PoolFull}
+use Rattle.live_log.specs.Log.{Begins, Log}
 use Rattle.rcu_list.specs.live_rule.Places.{cell_at}
 use Rattle.rcu_list.specs.live_rule.declared.view.Look.{Look}
 use Rattle.rcu_list.specs.live_rule.declared.view.Sizes.{Sizes}
 use Rattle.rcu_list.specs.live_rule.Steps.{stores_in}
+use Rattle.rcu_list.specs.live_read.Hearing.{Stays}
 use Rattle.rcu_list.specs.live_read.declared.caller.Caller.{Ghosts}
 use Rattle.rcu_list.specs.live_write.Searching.{NoRecordIsFree}
 
@@ -23,9 +25,23 @@ FreesAll key found = (i : ℕ) → IsLeftZero (cell_at key i 0) (stores_in found
 abbrev pub FreesAllBut : Sizes → List ℕ → List Look → Type 0
 FreesAllBut key kept found = (i : ℕ) → In kept i ⊎ IsLeftZero (cell_at key i 0) (stores_in found)
 
--- these records are freed, whatever was taken before
-abbrev pub Frees : Sizes → List ℕ → List Look → Type 0
-Frees key cells found = (before : List Look) → FreesAllBut key cells before → FreesAll key (found ++ before)
+-- A call, or a part of one, that made no change: it heard, looked, and loaded these logs. Each record that it took is
+-- free again but these, perhaps.
+pub record Looked {W S : Type 0} (w : Ghosts W S) (key : Sizes) (kept : List ℕ) (logs : List Log) (old new : W) : Type 0 where
+  pub stays : Stays w old new
+  pub heard : Begins (w.heard old) (w.heard new)
+  pub loads : w.loads new ≡ logs ++ w.loads old
+  pub found : List Look
+  pub looks : w.looks new ≡ found ++ w.looks old
+  pub freed : FreesAllBut key kept found
+
+-- it is refused: the pool was full, if that is why
+abbrev pub GivesUp : {W S : Type 0} → Ghosts W S → Sizes → List ℕ → List Log → Refusal → W → W → Type 0
+GivesUp w key kept logs e old new = (l : Looked w key kept logs old new) × (e ≡ PoolFull → NoRecordIsFree key l.found)
+
+-- in a call that is refused, and kept the first of these records before, it keeps no others than the second ones
+abbrev pub Undoes : {W S : Type 0} → Ghosts W S → Sizes → (before kept : List ℕ) → W → W → Type 0
+Undoes {W} w key before kept old new = (start : W) (logs : List Log) (e : Refusal) → GivesUp w key before logs e start old → (all : List Log) × GivesUp w key kept all e start new
 
 -- this many records, at most, were taken and not freed
 abbrev pub KeepsMany : Sizes → ℕ → List Look → Type 0

@@ -220,9 +220,10 @@ module _ (qsbr : Bool) (allows : Log → LiveEvent → Type 0) (sizes : Sizes) (
     pub only : OnlyFrees sizes found
 
 module _ {D W S : Type 0} (qsbr : Bool) (sizes : Sizes) (d : ℕ) (w : Ghosts W S) (code : D → Gv) (old new : W) (jobs left : List D) where
-  -- in a call, after what its caller had heard of
-  abbrev pub UsesUp : Type 0
-  UsesUp = Uses qsbr tabled sizes d (w.seen old) w code old new jobs left (w.heard old) (w.heard new)
+  -- in a call that loads nothing, after what its caller had heard of
+  pub record UsesUp : Type 0 where
+    pub uses : Uses qsbr tabled sizes d (w.seen old) w code old new jobs left (w.heard old) (w.heard new)
+    pub loads : w.loads new ≡ w.loads old
 
 module _ {W S : Type 0} (w : Ghosts W S) (new : W) (is_one : ℕ → Type 0) where
   -- one of these queues was closed, or there was no memory
@@ -244,7 +245,7 @@ module _ {W S : Type 0} (w : Ghosts W S) (qsbr : Bool) (allows : Log → LiveEve
   pub record CountsLeft (d : ℕ) (chains : List (ℕ × ℕ)) (left : ℕ) : Type 0 where
     pub replaced : Option ObjectId
     pub was : ∥ ((o : ObjectId) → replaced ≡ Some o → WasReplaced d o (w.heard new)) ∥₁
-    pub waits : (o : ObjectId) → replaced ≡ Some o → During w qsbr allows old new (IsUnretired o)
+    pub unretired : (o : ObjectId) → replaced ≡ Some o → During w qsbr allows old new (IsUnretired o)
     pub still : Each (λ c. During w qsbr allows old new (LinksStill d c)) chains
     pub row : ∥ ((first : ℕ) × AreInRow first chains) ∥₁
     pub rest : ∥ LeavesOnly d (w.heard new) (In (numbers_of chains)) (λ o. replaced ≡ Some o) ∥₁

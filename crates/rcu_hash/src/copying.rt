@@ -1,18 +1,17 @@
 //! The keys of a table in records for the chains of another.
 
 ghost use Rattle.std.specs.Prelude.{◌≡◌, ◌⊎◌, ◌%◌, ◌==◌, ◌<◌, ◌∷◌, ◌++◌, [], ℕ, List, None, Some, IfErr, IfOk, if◌then◌else◌, map, vec_len};
-ghost use Rattle.live_log.specs.Log.{Begins, Log};
+ghost use Rattle.live_log.specs.Log.{Begins};
 ghost use Rattle.live_log.specs.Tables.{tabled};
-ghost use Rattle.rcu_list.specs.live_rule.declared.view.Look.{Look};
 ghost use Rattle.rcu_list.specs.live_rule.Rights.{cell_in, payload_in};
 ghost use Rattle.rcu_list.specs.live_rule.Steps.{Keeps, Went};
-ghost use Rattle.rcu_list.specs.live_read.Hearing.{OnlyMakesMany, Stays};
+ghost use Rattle.rcu_list.specs.live_read.Hearing.{OnlyMakesMany};
 ghost use Rattle.rcu_list.specs.live_write.Searching.{NoRecordIsFree};
 ghost use Rattle.rcu_list.specs.Maps.{words_of};
 ghost use Rattle.rcu_model.specs.Sets.{In};
 ghost use Rattle.rcu_model.specs.declared.refusal.Refusal.TheVariants.{Memory, PoolFull};
 ghost use Rattle.rcu_hash.specs.Copies.{AreApart, AreRanked, value_among, value_in_bucket};
-ghost use Rattle.rcu_hash.specs.Freeing.{Frees, FreesAllBut};
+ghost use Rattle.rcu_hash.specs.Freeing.{Looked, Undoes};
 ghost use Rattle.rcu_hash.specs.Growing.{CopiesAll};
 ghost use Rattle.rcu_hash.specs.Leaving.{Writes};
 ghost use Rattle.rcu_hash.specs.Writers.{AreFrom, Each, HasKeysIn, HasNoNote, IsAlone, IsEmpty, value_at};
@@ -48,9 +47,7 @@ fn copy_key<P: GracePlan + Drop, B: Site, D: Deleter, W: Caller<B>, R: Wait>(
     ensures cells { (i : ℕ) → In (map (λ c. cell_in c.owned.seat.me.0.object) copied.old.items) i → In (map (λ c. cell_in c.owned.seat.me.0.object) copied.new.items) i }
     ensures ranks { IfOk result (λ _. map (λ c. c.rank) copied.new.items ≡ map (λ c. c.rank) copied.old.items ++ vec_len copied.old ∷ []) }
     ensures refused { IfErr result (λ e. (copied.new.items ≡ copied.old.items) × ((e ≡ Memory) ⊎ (e ≡ PoolFull))) }
-    ensures looks { (found : List Look) × (W.looks caller.new ≡ found ++ W.looks caller.old) × FreesAllBut B.sizes (map (λ c. cell_in c.owned.seat.me.0.object) copied.new.items) found × IfErr result (λ e. (e ≡ PoolFull) → NoRecordIsFree B.sizes found) }
-    ensures heard { Begins (W.heard caller.old) (W.heard caller.new) }
-    ensures same { Stays W.Caller caller.old caller.new × (W.loads caller.new ≡ W.loads caller.old) }
+    ensures same { (l : Looked W.Caller B.sizes (map (λ c. cell_in c.owned.seat.me.0.object) copied.new.items) [] caller.old caller.new) × IfErr result (λ e. (e ≡ PoolFull) → NoRecordIsFree B.sizes l.found) }
 {
     if copied.reserve(1).is_err() {
         return Err(Refusal::Memory);
@@ -83,9 +80,7 @@ impl<'d, P: GracePlan + Drop, B: Site, D: Deleter> Bucket<'d, P, B, D> {
         ensures cells { (i : ℕ) → In (map (λ c. cell_in c.owned.seat.me.0.object) copied.old.items) i → In (map (λ c. cell_in c.owned.seat.me.0.object) copied.new.items) i }
         ensures apart { IfOk result (λ _. AreApart (map (λ c. (c.key, c.value)) copied.new.items) × AreRanked 0 (map (λ c. c.rank) copied.new.items)) }
         ensures refused { IfErr result (λ e. (e ≡ Memory) ⊎ (e ≡ PoolFull)) }
-        ensures looks { (found : List Look) × (W.looks caller.new ≡ found ++ W.looks caller.old) × FreesAllBut B.sizes (map (λ c. cell_in c.owned.seat.me.0.object) copied.new.items) found × IfErr result (λ e. (e ≡ PoolFull) → NoRecordIsFree B.sizes found) }
-        ensures heard { Begins (W.heard caller.old) (W.heard caller.new) }
-        ensures same { Stays W.Caller caller.old caller.new × (W.loads caller.new ≡ W.loads caller.old) }
+        ensures same { (l : Looked W.Caller B.sizes (map (λ c. cell_in c.owned.seat.me.0.object) copied.new.items) [] caller.old caller.new) × IfErr result (λ e. (e ≡ PoolFull) → NoRecordIsFree B.sizes l.found) }
         ensures walked { (self.new.naming ≡ self.old.naming) × Keeps self.old.chain.seat self.new.chain.seat × Went P.QSBR tabled self.old.chain.seat.me.0 self.old.chain.seat.me self.new.chain.seat.me × (self.new.chain.number ≡ self.old.chain.number) × (self.new.chain.home.now ≡ self.old.chain.home.now) }
     {
         // By this load the writer sees a run, also where the chain is empty.
@@ -110,9 +105,7 @@ pub(crate) fn discard_all<P: GracePlan + Drop, B: Site, D: Deleter, W: Caller<B>
     caller: &mut W,
     copied: Vec<Copied<B>>,
 )
-    ensures heard { Begins (W.heard caller.old) (W.heard caller.new) }
-    ensures told { ((found : List Look) × (W.looks caller.new ≡ found ++ W.looks caller.old) × Frees B.sizes (map (λ c. cell_in c.owned.seat.me.0.object) copied.items) found) × ((logs : List Log) × (W.loads caller.new ≡ logs ++ W.loads caller.old)) }
-    ensures same { Stays W.Caller caller.old caller.new }
+    ensures same { Undoes W.Caller B.sizes (map (λ c. cell_in c.owned.seat.me.0.object) copied.items) [] caller.old caller.new }
 {
     let many = copied.len();
     let mut rest = copied.into_iter();

@@ -108,20 +108,6 @@ pub(crate) struct DirectoryLock<'d, P: GracePlan, B: Site, D: Drop> {
 }
 
 impl<'d, P: GracePlan + Drop, B: Site, D: Deleter> DirectoryLock<'d, P, B, D> {
-    /// The writer of this directory, which is linked, out of its lock, to which it is to be given back.
-    pub(crate) fn take<'t, R: Wait>(
-        &'t self,
-        rt: &R,
-        naming: Naming,
-    ) -> (
-        MutexGuard<'t, Option<Directory<'d, P, B, D>>>,
-        Directory<'d, P, B, D>,
-    )
-        ensures { result.1.naming ≡ naming }
-    {
-        take(rt, &self.writer, naming)
-    }
-
     /// Lends its right to the writer of a chain that an earlier directory named, for one step, while the lock is held. It
     /// waits for the lock.
     pub(crate) fn lend<'t, R: Wait>(
@@ -141,7 +127,7 @@ impl<'d, P: GracePlan + Drop, B: Site, D: Deleter> DirectoryLock<'d, P, B, D> {
         ensures own { (own_in to.new.seat.me.0.chains ≡ own_in to.old.seat.me.0.chains) × (to.new.number ≡ to.old.number) × (to.new.home.now ≡ to.old.home.now) }
         ensures later { Begins to.old.seat.me.0.seen to.new.seat.me.0.seen × IsLiveRun P.QSBR tabled to.new.seat.me.0.seen }
     {
-        let (place, directory) = self.take(rt, naming);
+        let (place, directory) = take(rt, &self.writer, naming);
         let Directory { chain, naming: its } = directory;
         let lent = chain.lend(to);
         (place, LentDirectory { lent, naming: its })
@@ -155,7 +141,7 @@ impl<'d, P: GracePlan + Drop, B: Site, D: Deleter> DirectoryLock<'d, P, B, D> {
         ensures heard { IsAfter P.QSBR tabled (W.seen caller.old) (W.heard caller.old) (W.heard caller.new) }
         ensures same { OnlyHears W.Caller caller.old caller.new }
     {
-        let (mut place, mut directory) = self.take(rt, naming);
+        let (mut place, mut directory) = take(rt, &self.writer, naming);
         directory.hear(caller);
         *place = Some(directory);
     }

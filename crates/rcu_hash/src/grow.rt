@@ -23,6 +23,7 @@ use crate::copying::fill;
 use crate::directory::{DirectoryLock, Naming};
 use crate::exchange::{Lenders, exchange};
 use crate::growth::Growth;
+use crate::labelled::take;
 use crate::making::{into_buckets, reserve_all};
 use crate::old_table::OldTable;
 use crate::table::{RcuHash, fits};
@@ -105,7 +106,7 @@ fn commit<'d, P: GracePlan + Drop, B: Site, D: Deleter, W: Caller<B>, R: Wait>(
         old_lents,
         new_lents,
     } = growth;
-    let (mut place, mut directory) = lock.take(rt, array.naming);
+    let (mut place, mut directory) = take(rt, &lock.writer, array.naming);
     directory.hear(caller);
     fill(&mut chains, caller, copied);
     let (owned, chains) = reserve_all(chains, reserved.noted, caller, owned);
@@ -243,7 +244,7 @@ impl<'d, P: GracePlan + Drop, B: Site, D: Deleter> RcuHash<'d, P, B, D> {
         ensures loads { ((logs : List Log) × (W.loads caller.new ≡ logs ++ W.loads caller.old)) × IfOk result (λ _. W.loads caller.new ≡ W.loads caller.old) }
         ensures changes { IfErr result (λ _. Stays W.Caller caller.old caller.new) }
     {
-        let (mut place, left) = self.take_left(rt);
+        let (mut place, left) = take(rt, &self.left, self.directory);
         let (left, answer) = self.grow_over(rt, alloc, caller, left, first, buckets);
         *place = Some(left);
         answer

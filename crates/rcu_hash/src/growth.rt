@@ -2,14 +2,12 @@
 
 ghost use Rattle.std.specs.Prelude.{◌≡◌, ◌⊎◌, ◌+◌, ◌≤◌, ◌∷◌, ◌++◌, [], ℕ, List, IfErr, IfOk, map, vec_capacity, vec_len};
 ghost use Rattle.rcu_model.specs.declared.refusal.Refusal.TheVariants.{BadConfig, Memory, PoolFull};
-ghost use Rattle.live_log.specs.Log.{Begins, Log};
+ghost use Rattle.live_log.specs.Log.{Log};
 ghost use Rattle.live_log.specs.Tables.{tabled};
-ghost use Rattle.rcu_list.specs.live_rule.declared.view.Look.{Look};
 ghost use Rattle.rcu_list.specs.live_rule.Rights.{cell_in, payload_in};
-ghost use Rattle.rcu_list.specs.live_read.Hearing.{Stays};
 ghost use Rattle.rcu_list.specs.live_write.Searching.{NoRecordIsFree};
 ghost use Rattle.rcu_hash.specs.Copies.{AreApart, AreRanked, value_among, value_in_bucket};
-ghost use Rattle.rcu_hash.specs.Freeing.{Frees, FreesAllBut, KeepsNone};
+ghost use Rattle.rcu_hash.specs.Freeing.{GivesUp, Looked, Undoes};
 ghost use Rattle.rcu_hash.specs.Naming.{words_by};
 ghost use Rattle.rcu_hash.specs.Refusing.{FindsFree, FindsTaken};
 ghost use Rattle.rcu_hash.specs.Tables.{IsAmong};
@@ -18,7 +16,7 @@ ghost use Rattle.rcu_hash.specs.Writers.{AreFrom, Each, IsAlone, IsEmpty};
 use crate::bucket::Bucket;
 use crate::bucket_array::{BucketArray, Place};
 use crate::copying::{Copied, discard_all};
-use crate::making::{find_free, hold_all, room};
+use crate::making::{hold_all, reserve_record, room};
 use gp_memb::GracePlan;
 use live_log::Tabled;
 use rcu_list::{Caller, Chain, Deleter, Domain, Lent, Owned, Site};
@@ -100,9 +98,7 @@ fn copy_all<'d, P: GracePlan + Drop, B: Site, D: Deleter, W: Caller<B>, R: Wait>
     ensures taken { IfOk result (λ _. (vec_len taken.new ≡ array.now.naming.buckets) × AreFrom array.now.naming.first (map (λ b. b.chain.seat.me.0) taken.new.items) × Each (λ b. b.naming ≡ array.now.naming) taken.new.items) }
     ensures many { vec_len taken.new ≤ array.now.naming.buckets }
     ensures refused { IfErr result (λ e. (e ≡ Memory) ⊎ (e ≡ PoolFull)) }
-    ensures looks { (found : List Look) × (W.looks caller.new ≡ found ++ W.looks caller.old) × FreesAllBut B.sizes (map (λ c. cell_in c.owned.seat.me.0.object) copied.new.items) found × IfErr result (λ e. (e ≡ PoolFull) → NoRecordIsFree B.sizes found) }
-    ensures heard { Begins (W.heard caller.old) (W.heard caller.new) }
-    ensures same { Stays W.Caller caller.old caller.new × (W.loads caller.new ≡ W.loads caller.old) }
+    ensures same { (l : Looked W.Caller B.sizes (map (λ c. cell_in c.owned.seat.me.0.object) copied.new.items) [] caller.old caller.new) × IfErr result (λ e. (e ≡ PoolFull) → NoRecordIsFree B.sizes l.found) }
 {
     for number in 0..array.naming.buckets {
         let (_place, mut bucket) = array.take(rt, number);
@@ -152,23 +148,13 @@ fn reserve_directory<'d, P: GracePlan + Drop, B: Site, D: Deleter, W: Caller<B>,
 >
     ensures made { IfOk result (λ r. (payload_in r.0.seat.me.0.object ≡ words_by first buckets) × (r.1.items ≡ []) × (olds ≤ vec_capacity r.1) × (r.2.items ≡ []) × (buckets ≤ vec_capacity r.2)) }
     ensures refused { IfErr result (λ e. (e ≡ Memory) ⊎ (e ≡ PoolFull)) }
-    ensures looks { (found : List Look) × (W.looks caller.new ≡ found ++ W.looks caller.old) × IfOk result (λ r. FreesAllBut B.sizes (cell_in r.0.seat.me.0.object ∷ []) found) × IfErr result (λ e. KeepsNone B.sizes e found) }
-    ensures heard { Begins (W.heard caller.old) (W.heard caller.new) }
-    ensures same { Stays W.Caller caller.old caller.new × (W.loads caller.new ≡ W.loads caller.old) }
+    ensures same { IfOk result (λ r. Looked W.Caller B.sizes (cell_in r.0.seat.me.0.object ∷ []) [] caller.old caller.new) × IfErr result (λ e. GivesUp W.Caller B.sizes [] [] e caller.old caller.new) }
 {
     let old_lents = room(alloc, olds)?;
-    let new_lents = match room(alloc, buckets) {
-        Ok(lents) => lents,
+    match reserve_record(rt, alloc, domain, caller, first, buckets) {
+        Ok((owned, new_lents)) => Ok((owned, old_lents, new_lents)),
         Err(refusal) => {
             old_lents.destroy_empty();
-            return Err(refusal);
-        }
-    };
-    match domain.alloc(rt, caller, [first as u64, buckets as u64, 0, 1]) {
-        Ok(owned) => Ok((owned, old_lents, new_lents)),
-        Err(refusal) => {
-            old_lents.destroy_empty();
-            new_lents.destroy_empty();
             Err(refusal)
         }
     }
@@ -184,9 +170,7 @@ fn undo<'d, P: GracePlan + Drop, B: Site, D: Deleter, W: Caller<B>, R: Wait>(
     copied: Vec<Copied<B>>,
 )
     requires many { vec_len taken ≤ array.now.naming.buckets }
-    ensures heard { Begins (W.heard caller.old) (W.heard caller.new) }
-    ensures told { ((found : List Look) × (W.looks caller.new ≡ found ++ W.looks caller.old) × Frees B.sizes (map (λ c. cell_in c.owned.seat.me.0.object) copied.items) found) × ((logs : List Log) × (W.loads caller.new ≡ logs ++ W.loads caller.old)) }
-    ensures same { Stays W.Caller caller.old caller.new }
+    ensures same { Undoes W.Caller B.sizes (map (λ c. cell_in c.owned.seat.me.0.object) copied.items) [] caller.old caller.new }
 {
     restock(rt, array, taken);
     discard_all(domain, caller, copied);
@@ -215,16 +199,13 @@ impl<'d, P: GracePlan + Drop, B: Site, D: Deleter> Growth<'d, P, B, D> {
         ensures record { IfOk result (λ g. (payload_in g.owned.seat.me.0.object ≡ words_by first buckets) × (g.old_lents.items ≡ []) × (array.now.naming.buckets ≤ vec_capacity g.old_lents) × (g.new_lents.items ≡ []) × (buckets ≤ vec_capacity g.new_lents)) }
         ensures refused { IfErr result (λ e. ((e ≡ BadConfig) × FindsTaken W.Caller P.QSBR tabled caller.old caller.new B.sizes (IsAmong first buckets)) ⊎ (FindsFree W.Caller P.QSBR tabled caller.old caller.new (IsAmong first buckets) × ((e ≡ Memory) ⊎ (e ≡ PoolFull)))) }
         ensures free { IfOk result (λ _. FindsFree W.Caller P.QSBR tabled caller.old caller.new (IsAmong first buckets)) }
-        ensures heard { Begins (W.heard caller.old) (W.heard caller.new) }
-        ensures looks { (found : List Look) × (W.looks caller.new ≡ found ++ W.looks caller.old) × IfOk result (λ g. FreesAllBut B.sizes (cell_in g.owned.seat.me.0.object ∷ map (λ c. cell_in c.owned.seat.me.0.object) g.copied.items) found) × IfErr result (λ e. KeepsNone B.sizes e found) }
-        ensures loads { ((logs : List Log) × (W.loads caller.new ≡ logs ++ W.loads caller.old)) × IfOk result (λ _. W.loads caller.new ≡ W.loads caller.old) }
-        ensures same { Stays W.Caller caller.old caller.new }
+        ensures same { IfOk result (λ g. Looked W.Caller B.sizes (cell_in g.owned.seat.me.0.object ∷ map (λ c. cell_in c.owned.seat.me.0.object) g.copied.items) [] caller.old caller.new) × IfErr result (λ e. (logs : List Log) × GivesUp W.Caller B.sizes [] logs e caller.old caller.new) }
     {
         let olds = array.naming.buckets;
         let (reserved, mut taken, chains) = match Reserved::new(alloc, olds, buckets) {
             Ok(rooms) => rooms,
             Err(refusal) => {
-                find_free(domain, caller, first, buckets)?;
+                hold_all(domain, caller, Vec::new(alloc), first, buckets)?;
                 return Err(refusal);
             }
         };

@@ -1,18 +1,17 @@
 //! How a table takes its chains, and how a directory comes to name them.
 
 ghost use Rattle.std.specs.Prelude.{◌≡◌, ◌⊎◌, ◌+◌, ◌^◌, ◌<◌, ◌≤◌, ◌∷◌, ◌++◌, [], ℕ, List, None, IfErr, IfOk, map, vec_capacity, vec_len};
-ghost use Rattle.rcu_model.specs.declared.refusal.Refusal.TheVariants.{BadConfig, Memory};
+ghost use Rattle.rcu_model.specs.declared.refusal.Refusal.TheVariants.{BadConfig, Memory, PoolFull};
 ghost use Rattle.live_log.specs.declared.event.LiveEvent.TheVariants.{Object};
 ghost use Rattle.live_log.specs.declared.event.ObjectEvent.TheVariants.{Push};
 ghost use Rattle.live_log.specs.Log.{Begins, IsLiveRun};
 ghost use Rattle.live_log.specs.Tables.{reserved, tabled};
-ghost use Rattle.rcu_list.specs.live_rule.declared.view.Look.{Look};
 ghost use Rattle.rcu_list.specs.live_rule.declared.view.Look.TheVariants.{Loaded, Stored};
 ghost use Rattle.rcu_list.specs.live_rule.Places.{hold_at};
-ghost use Rattle.rcu_list.specs.live_rule.Rights.{object_in, payload_in};
-ghost use Rattle.rcu_list.specs.live_read.Hearing.{IsAfter, OnlyMakesLast, OnlyMakesMany, Stays};
+ghost use Rattle.rcu_list.specs.live_rule.Rights.{cell_in, object_in, payload_in};
+ghost use Rattle.rcu_list.specs.live_read.Hearing.{IsAfter, OnlyMakesLast, OnlyMakesMany};
 ghost use Rattle.rcu_hash.specs.Directories.{LeadsTo, directed_map};
-ghost use Rattle.rcu_hash.specs.Freeing.{FreesAll};
+ghost use Rattle.rcu_hash.specs.Freeing.{GivesUp, Looked};
 ghost use Rattle.rcu_hash.specs.Growing.{NotesAll};
 ghost use Rattle.rcu_hash.specs.Leaving.{Writes};
 ghost use Rattle.rcu_hash.specs.Buckets.{IsBucket};
@@ -22,7 +21,7 @@ ghost use Rattle.rcu_hash.specs.Tables.{IsAmong, bucket_of};
 ghost use Rattle.rcu_hash.specs.Writers.{AreFrom, AreKept, Each, HasNoNote, HasNote, HasNothing, IsAlone, IsEmpty, KeepLists};
 
 use crate::bucket::Bucket;
-use crate::bucket_array::Place;
+use crate::bucket_array::{ArrayLock, Place, empty_lock};
 use crate::directory::{Directory, Naming};
 use crate::rights::{lend_all, take_all_back};
 use gp_memb::GracePlan;
@@ -30,7 +29,7 @@ use live_log::Tabled;
 use rcu_list::{Caller, Chain, Deleter, Domain, Lent, Owned, Site};
 use rcu_model::Refusal;
 use std::alloc::Global;
-use std::sync::Mutex;
+use std::sync::{Mutex, Wait};
 
 /// An empty list with room for this many.
 ///
@@ -45,29 +44,33 @@ pub(crate) fn room<T>(alloc: Global, many: usize) -> Result<Vec<T>, Refusal>
     }
 }
 
-/// Room for so many chains, three times, and for so many buckets.
-///
-/// Refused with `Memory` where memory is.
-pub(crate) fn rooms<'d, P: GracePlan + Drop, B: Site, D: Deleter>(
-    alloc: Global,
-    many: usize,
-) -> Result<
-    (
-        Vec<Chain<'d, P, Tabled, B, D>>,
-        Vec<Chain<'d, P, Tabled, B, D>>,
-        Vec<Chain<'d, P, Tabled, B, D>>,
-        Vec<Place<'d, P, B, D>>,
-    ),
-    Refusal,
->
-    ensures made { IfOk result (λ r. (r.0.items ≡ []) × (many ≤ vec_capacity r.0) × (r.1.items ≡ []) × (many ≤ vec_capacity r.1) × (r.2.items ≡ []) × (many ≤ vec_capacity r.2) × (r.3.items ≡ []) × (many ≤ vec_capacity r.3)) }
-    ensures refused { IfErr result (λ e. e ≡ Memory) }
-{
-    let chains = room(alloc, many)?;
-    let noted = room(alloc, many)?;
-    let back = room(alloc, many)?;
-    let places = room(alloc, many)?;
-    Ok((chains, noted, back, places))
+/// Vectors that are allocated before the first chain of a table is held, and the lock of its array.
+#[derive(Drop)]
+pub(crate) struct Rooms<'d, P: GracePlan, B: Site, D: Drop> {
+    pub(crate) chains: Vec<Chain<'d, P, Tabled, B, D>>,
+    pub(crate) noted: Vec<Chain<'d, P, Tabled, B, D>>,
+    pub(crate) back: Vec<Chain<'d, P, Tabled, B, D>>,
+    pub(crate) places: Vec<Place<'d, P, B, D>>,
+    pub(crate) array: ArrayLock<'d, P, B, D>,
+    pub(crate) ghost empty: { (chains.items ≡ []) × (noted.items ≡ []) × (back.items ≡ []) × (places.items ≡ []) },
+}
+
+impl<'d, P: GracePlan + Drop, B: Site, D: Deleter> Rooms<'d, P, B, D> {
+    /// Room for so many chains, three times, and for so many buckets.
+    ///
+    /// Refused with `Memory` where memory is.
+    pub(crate) fn new(alloc: Global, many: usize) -> Result<Rooms<'d, P, B, D>, Refusal>
+        ensures made { IfOk result (λ r. (many ≤ vec_capacity r.chains) × (many ≤ vec_capacity r.noted) × (many ≤ vec_capacity r.back) × (many ≤ vec_capacity r.places)) }
+        ensures refused { IfErr result (λ e. e ≡ Memory) }
+    {
+        Ok(Rooms {
+            chains: room(alloc, many)?,
+            noted: room(alloc, many)?,
+            back: room(alloc, many)?,
+            places: room(alloc, many)?,
+            array: empty_lock(alloc)?,
+        })
+    }
 }
 
 /// The writer of a chain that has none, is empty and has no note: in the log of which the caller hears last.
@@ -79,11 +82,11 @@ pub(crate) fn hold_empty<'d, P: GracePlan + Drop, B: Site, D: Deleter, W: Caller
     chain: usize,
 ) -> Result<Chain<'d, P, Tabled, B, D>, Refusal>
     requires { chain < B.sizes.chains }
-    ensures held { IfOk result (λ c. (c.number ≡ chain) × IsEmpty c.seat.me.0 × IsAlone c.seat.me.0 × IsLiveRun P.QSBR tabled c.seat.me.0.seen × (W.looks caller.new ≡ Stored (hold_at B.sizes chain) 1 ∷ Loaded (hold_at B.sizes chain) 0 ∷ W.looks caller.old)) }
+    ensures held { IfOk result (λ c. (c.number ≡ chain) × IsEmpty c.seat.me.0 × IsAlone c.seat.me.0 × IsLiveRun P.QSBR tabled c.seat.me.0.seen) }
     ensures refused { IfErr result (λ e. (e ≡ BadConfig) × FindsTaken W.Caller P.QSBR tabled caller.old caller.new B.sizes (λ c. c ≡ chain)) }
     ensures unused { IfOk result (λ _. IsUnused chain (W.heard caller.new)) }
     ensures heard { IsAfter P.QSBR tabled (W.seen caller.old) (W.heard caller.old) (W.heard caller.new) }
-    ensures same { Stays W.Caller caller.old caller.new × (W.loads caller.new ≡ W.loads caller.old) × ((found : List Look) × (W.looks caller.new ≡ found ++ W.looks caller.old) × FreesAll B.sizes found) }
+    ensures same { (l : Looked W.Caller B.sizes [] [] caller.old caller.new) × IfOk result (λ _. l.found ≡ Stored (hold_at B.sizes chain) 1 ∷ Loaded (hold_at B.sizes chain) 0 ∷ []) }
 {
     let mut writer = match domain.chain(caller, chain) {
         Ok(writer) => writer,
@@ -96,48 +99,18 @@ pub(crate) fn hold_empty<'d, P: GracePlan + Drop, B: Site, D: Deleter, W: Caller
     Ok(writer)
 }
 
-/// Chains that follow one another had no writer, were empty and had no note, each in some log of the call. Each is held
-/// and given back.
-///
-/// Refused with `BadConfig` where one was not. The caller hears of what was seen.
-pub(crate) fn find_free<'d, P: GracePlan + Drop, B: Site, D: Deleter, W: Caller<B>>(
-    domain: &'d Domain<P, Tabled, B, D>,
-    caller: &mut W,
-    first: usize,
-    many: usize,
-) -> Result<(), Refusal>
-    requires range { first + many ≤ B.sizes.chains }
-    ensures free { IfOk result (λ _. FindsFree W.Caller P.QSBR tabled caller.old caller.new (IsAmong first many)) }
-    ensures refused { IfErr result (λ e. (e ≡ BadConfig) × FindsTaken W.Caller P.QSBR tabled caller.old caller.new B.sizes (IsAmong first many)) }
-    ensures heard { Begins (W.heard caller.old) (W.heard caller.new) }
-    ensures same { Stays W.Caller caller.old caller.new × (W.loads caller.new ≡ W.loads caller.old) × ((found : List Look) × (W.looks caller.new ≡ found ++ W.looks caller.old) × FreesAll B.sizes found) }
+/// A value behind the others, if there is room for it; else it is let go.
+fn keep<T: Drop>(values: &mut Vec<T>, value: T)
+    ensures kept { vec_len values.old < vec_capacity values.old → values.new.items ≡ values.old.items ++ value ∷ [] }
+    ensures same { vec_capacity values.new ≡ vec_capacity values.old }
 {
-    for number in 0..many {
-        hold_empty(domain, caller, first + number)?;
+    if values.len() < values.capacity() {
+        values.push_reserved(value);
     }
-    Ok(())
 }
 
-/// The same, with another chain before them.
-pub(crate) fn find_all_free<'d, P: GracePlan + Drop, B: Site, D: Deleter, W: Caller<B>>(
-    domain: &'d Domain<P, Tabled, B, D>,
-    caller: &mut W,
-    directory: usize,
-    first: usize,
-    many: usize,
-) -> Result<(), Refusal>
-    requires range { (directory < B.sizes.chains) × (first + many ≤ B.sizes.chains) × ((directory < first) ⊎ (first + many ≤ directory)) }
-    ensures free { IfOk result (λ _. FindsFree W.Caller P.QSBR tabled caller.old caller.new (λ c. (c ≡ directory) ⊎ IsAmong first many c)) }
-    ensures refused { IfErr result (λ e. (e ≡ BadConfig) × FindsTaken W.Caller P.QSBR tabled caller.old caller.new B.sizes (λ c. (c ≡ directory) ⊎ IsAmong first many c)) }
-    ensures heard { Begins (W.heard caller.old) (W.heard caller.new) }
-    ensures same { Stays W.Caller caller.old caller.new × (W.loads caller.new ≡ W.loads caller.old) × ((found : List Look) × (W.looks caller.new ≡ found ++ W.looks caller.old) × FreesAll B.sizes found) }
-{
-    hold_empty(domain, caller, directory)?;
-    find_free(domain, caller, first, many)?;
-    Ok(())
-}
-
-/// The writers of chains that follow one another and have none, are empty and have no note. There is room for them.
+/// The writers of chains that follow one another and have none, are empty and have no note. Those for which there is no
+/// room are given back at once.
 ///
 /// Refused with `BadConfig` where one is not; then all are given back. The caller hears of what was seen.
 pub(crate) fn hold_all<'d, P: GracePlan + Drop, B: Site, D: Deleter, W: Caller<B>>(
@@ -148,17 +121,63 @@ pub(crate) fn hold_all<'d, P: GracePlan + Drop, B: Site, D: Deleter, W: Caller<B
     many: usize,
 ) -> Result<Vec<Chain<'d, P, Tabled, B, D>>, Refusal>
     requires range { first + many ≤ B.sizes.chains }
-    requires room { (chains.items ≡ []) × (many ≤ vec_capacity chains) }
-    ensures held { IfOk result (λ cs. (vec_len cs ≡ many) × AreFrom first (map (λ c. c.seat.me.0) cs.items) × Each IsEmpty (map (λ c. c.seat.me.0) cs.items) × Each IsAlone (map (λ c. c.seat.me.0) cs.items)) }
+    requires none { chains.items ≡ [] }
+    ensures held { IfOk result (λ cs. many ≤ vec_capacity chains.entry → (vec_len cs ≡ many) × AreFrom first (map (λ c. c.seat.me.0) cs.items) × Each IsEmpty (map (λ c. c.seat.me.0) cs.items) × Each IsAlone (map (λ c. c.seat.me.0) cs.items)) }
     ensures refused { IfErr result (λ e. (e ≡ BadConfig) × FindsTaken W.Caller P.QSBR tabled caller.old caller.new B.sizes (IsAmong first many)) }
     ensures free { IfOk result (λ _. FindsFree W.Caller P.QSBR tabled caller.old caller.new (IsAmong first many)) }
-    ensures heard { Begins (W.heard caller.old) (W.heard caller.new) }
-    ensures same { Stays W.Caller caller.old caller.new × (W.loads caller.new ≡ W.loads caller.old) × ((found : List Look) × (W.looks caller.new ≡ found ++ W.looks caller.old) × FreesAll B.sizes found) }
+    ensures same { Looked W.Caller B.sizes [] [] caller.old caller.new }
 {
     for number in 0..many {
-        chains.push_reserved(hold_empty(domain, caller, first + number)?);
+        keep(&mut chains, hold_empty(domain, caller, first + number)?);
     }
     Ok(chains)
+}
+
+/// As `hold_all`, with the writer of a directory's chain before them.
+pub(crate) fn hold_table<'d, P: GracePlan + Drop, B: Site, D: Deleter, W: Caller<B>>(
+    domain: &'d Domain<P, Tabled, B, D>,
+    caller: &mut W,
+    chains: Vec<Chain<'d, P, Tabled, B, D>>,
+    directory: usize,
+    first: usize,
+    many: usize,
+) -> Result<(Chain<'d, P, Tabled, B, D>, Vec<Chain<'d, P, Tabled, B, D>>), Refusal>
+    requires range { (directory < B.sizes.chains) × (first + many ≤ B.sizes.chains) × ((directory < first) ⊎ (first + many ≤ directory)) }
+    requires none { chains.items ≡ [] }
+    ensures own { IfOk result (λ r. (r.0.number ≡ directory) × IsEmpty r.0.seat.me.0 × IsAlone r.0.seat.me.0 × IsLiveRun P.QSBR tabled r.0.seat.me.0.seen) }
+    ensures held { IfOk result (λ r. many ≤ vec_capacity chains.entry → (vec_len r.1 ≡ many) × AreFrom first (map (λ c. c.seat.me.0) r.1.items) × Each IsEmpty (map (λ c. c.seat.me.0) r.1.items) × Each IsAlone (map (λ c. c.seat.me.0) r.1.items)) }
+    ensures refused { IfErr result (λ e. (e ≡ BadConfig) × FindsTaken W.Caller P.QSBR tabled caller.old caller.new B.sizes (λ c. (c ≡ directory) ⊎ IsAmong first many c)) }
+    ensures free { IfOk result (λ _. FindsFree W.Caller P.QSBR tabled caller.old caller.new (λ c. (c ≡ directory) ⊎ IsAmong first many c)) }
+    ensures same { Looked W.Caller B.sizes [] [] caller.old caller.new }
+{
+    let own = hold_empty(domain, caller, directory)?;
+    let chains = hold_all(domain, caller, chains, first, many)?;
+    Ok((own, chains))
+}
+
+/// The record of a directory, and room for what is left of writers that lend it their rights.
+///
+/// Refused with `Memory` or `PoolFull`.
+pub(crate) fn reserve_record<'d, P: GracePlan + Drop, B: Site, D: Deleter, W: Caller<B>, R: Wait>(
+    rt: &R,
+    alloc: Global,
+    domain: &Domain<P, Tabled, B, D>,
+    caller: &mut W,
+    first: usize,
+    buckets: usize,
+) -> Result<(Owned<B>, Vec<Lent<'d, P, Tabled, B, D>>), Refusal>
+    ensures made { IfOk result (λ r. (payload_in r.0.seat.me.0.object ≡ words_by first buckets) × (r.1.items ≡ []) × (buckets ≤ vec_capacity r.1)) }
+    ensures refused { IfErr result (λ e. (e ≡ Memory) ⊎ (e ≡ PoolFull)) }
+    ensures same { IfOk result (λ r. Looked W.Caller B.sizes (cell_in r.0.seat.me.0.object ∷ []) [] caller.old caller.new) × IfErr result (λ e. GivesUp W.Caller B.sizes [] [] e caller.old caller.new) }
+{
+    let lents = room(alloc, buckets)?;
+    match domain.alloc(rt, caller, [first as u64, buckets as u64, 0, 1]) {
+        Ok(owned) => Ok((owned, lents)),
+        Err(refusal) => {
+            lents.destroy_empty();
+            Err(refusal)
+        }
+    }
 }
 
 /// The chains of these writers, which have no note, are reserved for the object of a record, which comes back. There is

@@ -14,7 +14,7 @@ ghost use Rattle.rcu_hash.specs.Tidying.{CountsLeft, IsLeft, IsLinked, IsRecord,
 ghost use Rattle.rcu_hash.specs.Writers.{Each, each_prop, length_of, lengths_of, rights_of, some_prop};
 
 use crate::directory::{DirectoryLock, Naming};
-use crate::labelled::Labelled;
+use crate::labelled::{Labelled, take};
 use gp_memb::GracePlan;
 use live_log::Tabled;
 use rcu_list::{Caller, Chain, Deleter, Handle, Site, Unlinked};
@@ -65,7 +65,7 @@ fn hear_record<P: GracePlan + Drop, B: Site, D: Deleter, W: Caller<B>>(
     unlinked: Option<Unlinked<B>>,
 ) -> Option<Unlinked<B>>
     requires some { IsSome unlinked → 0 < length chains.now }
-    ensures waits { (o : ObjectId) → option_map (λ u. object_in u.seat.me.0.object) unlinked ≡ Some o → During W.Caller P.QSBR tabled caller.old caller.new (IsUnretired o) }
+    ensures unretired { (o : ObjectId) → option_map (λ u. object_in u.seat.me.0.object) unlinked ≡ Some o → During W.Caller P.QSBR tabled caller.old caller.new (IsUnretired o) }
     ensures record { option_map (λ u. object_in u.seat.me.0.object) result ≡ option_map (λ u. object_in u.seat.me.0.object) unlinked }
     ensures its { (d : ℕ) → IfSome unlinked (λ u. IsRecord d u.chain u.seat.me.0) → IfSome result (λ u. IsRecord d u.chain u.seat.me.0) }
     ensures heard { Begins (W.heard caller.old) (W.heard caller.new) }
@@ -172,7 +172,7 @@ impl<'d, P: GracePlan + Drop, B: Site, D: Deleter> OldTable<'d, P, B, D> {
             chains,
             mut handle,
         } = self;
-        let (mut place, mut directory) = lock.take(rt, naming);
+        let (mut place, mut directory) = take(rt, &lock.writer, naming);
         directory.hear(&mut handle);
         directory.hear(caller);
         *place = Some(directory);

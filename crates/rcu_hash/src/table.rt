@@ -13,11 +13,9 @@ ghost use Rattle.rcu_hash.specs.Calls.{IsInsertedThrough, IsMade, IsNotMade, IsR
 ghost use Rattle.rcu_list.specs.Calls.{TakesOneRecord};
 
 use crate::bucket::Bucket;
-use crate::bucket_array::{ArrayLock, BucketArray, empty_lock};
+use crate::bucket_array::{ArrayLock, BucketArray};
 use crate::directory::DirectoryLock;
-use crate::making::{
-    direct, find_all_free, hold_all, hold_empty, into_buckets, reserve_all, room, rooms,
-};
+use crate::making::{Rooms, direct, hold_table, into_buckets, reserve_all, reserve_record};
 use crate::old_table::OldTable;
 use crate::view::TableView;
 use gp_memb::GracePlan;
@@ -89,24 +87,21 @@ impl<'d, P: GracePlan + Drop, B: Site, D: Deleter> RcuHash<'d, P, B, D> {
             return Err(Refusal::BadConfig);
         }
         let view = TableView::of(domain, directory)?;
-        let (chains, noted, back, places) = match rooms(alloc, buckets) {
+        let Rooms {
+            chains,
+            noted,
+            back,
+            places,
+            array,
+        } = match Rooms::new(alloc, buckets) {
             Ok(rooms) => rooms,
             Err(refusal) => {
-                find_all_free(domain, caller, directory, first, buckets)?;
+                hold_table(domain, caller, Vec::new(alloc), directory, first, buckets)?;
                 return Err(refusal);
             }
         };
-        let own = hold_empty(domain, caller, directory)?;
-        let chains = hold_all(domain, caller, chains, first, buckets)?;
-        let array = empty_lock(alloc)?;
-        let lents = room(alloc, buckets)?;
-        let owned = match domain.alloc(rt, caller, [first as u64, buckets as u64, 0, 1]) {
-            Ok(owned) => owned,
-            Err(refusal) => {
-                lents.destroy_empty();
-                return Err(refusal);
-            }
-        };
+        let (own, chains) = hold_table(domain, caller, chains, directory, first, buckets)?;
+        let (owned, lents) = reserve_record(rt, alloc, domain, caller, first, buckets)?;
         let (owned, chains) = reserve_all(chains, noted, caller, owned);
         let (writer, chains) = direct(own, chains, lents, back, caller, owned, first);
         let naming = writer.naming;

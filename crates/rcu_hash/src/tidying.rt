@@ -13,7 +13,6 @@ ghost use Rattle.rcu_list.specs.live_rule.declared.view.Look.TheVariants.{Stored
 ghost use Rattle.rcu_list.specs.live_rule.Rights.{object_in};
 ghost use Rattle.rcu_list.specs.live_read.Hearing.{IsAfter, MakesMany, OnlyHears, Stays};
 ghost use Rattle.rcu_list.specs.live_write.Chains.{list_in};
-ghost use Rattle.rcu_list.specs.domain.Waiting.{FindsMore};
 ghost use Rattle.rcu_hash.specs.Tidying.{ClearsNote, CountsLeft, EndsTidying, FindsFrees, HasWaited, IsLeft, IsLinked, IsRecord, IsRefused, IsQueueAmong, IsRest, IsStopped, IsTidied, RetiresObject, StopsTidying, UsesUp, WasCleared, chains_in, numbers_of, objects_in};
 ghost use Rattle.rcu_hash.specs.Writers.{AreFrom, Each, HasNothing};
 
@@ -25,7 +24,7 @@ use gp_memb::GracePlan;
 use live_log::Tabled;
 use rcu_list::{Callback, Caller, Chain, Deleter, Domain, Site, Ticket, Unlinked};
 use rcu_model::Refusal;
-use std::sync::{MutexGuard, Wait};
+use std::sync::Wait;
 
 /// What a tidying came to.
 #[derive(Drop)]
@@ -115,8 +114,6 @@ impl<'d, P: GracePlan + Drop, B: Site, D: Deleter> DirectoryLock<'d, P, B, D> {
         ensures stopped { IfErr result (λ e. (0 < length (list_in chain.new.seat.me.0)) × IsStopped W.Caller caller.new (λ q. q ≡ chain.old.number % B.sizes.queues) jobs.new.items e) }
         ensures chain { IsLeft naming.directory naming.first naming.buckets chain.new.seat.me.0 }
         ensures number { chain.new.number ≡ chain.old.number }
-        ensures waited { HasWaited naming.directory naming.object (W.heard caller.new) }
-        ensures same { FindsMore W.Caller caller.old caller.new }
     {
         let many = chain.len();
         for _ in 0..many {
@@ -173,7 +170,6 @@ impl<'d, P: GracePlan + Drop, B: Site, D: Deleter> DirectoryLock<'d, P, B, D> {
         ensures cleared { (c : ℕ) → In (chains_in (map (λ c. c.seat.me.0) chains.old.items)) c → WasCleared (W.heard caller.old) c (W.heard caller.new) ⊎ In (chains_in (map (λ c. c.seat.me.0) chains.new.items)) c }
         ensures row { (first : ℕ) → AreFrom first (map (λ c. c.seat.me.0) chains.old.items) → AreFrom first (map (λ c. c.seat.me.0) chains.new.items) }
         ensures stopped { IfErr result (λ e. (0 < objects_in (map (λ c. c.seat.me.0) chains.new.items)) × IsStopped W.Caller caller.new (λ q. (c : ℕ) × In (chains_in (map (λ c. c.seat.me.0) chains.new.items)) c × (q ≡ c % B.sizes.queues)) jobs.new.items e) }
-        ensures same { FindsMore W.Caller caller.old caller.new }
     {
         let many = chains.len();
         for _ in 0..many {
@@ -205,9 +201,6 @@ fn retire_record<P: GracePlan + Drop, B: Site, D: Deleter, W: Caller<B>, R: Wait
     ensures told { (o : ObjectId) → option_map (λ u. object_in u.seat.me.0.object) replaced.old ≡ Some o → Has (Object (Retire o)) (W.heard caller.new) ⊎ (option_map (λ u. object_in u.seat.me.0.object) replaced.new ≡ Some o) }
     ensures kept { (replaced.new ≡ None) ⊎ (replaced.new ≡ replaced.old) }
     ensures stopped { IfErr result (λ e. IsSome replaced.new × ((d : ℕ) → IfSome replaced.old (λ u. IsRecord d u.chain u.seat.me.0) → IsStopped W.Caller caller.new (λ q. q ≡ d % B.sizes.queues) jobs.new.items e)) }
-    ensures heard { Begins (W.heard caller.old) (W.heard caller.new) }
-    ensures changes { Stays W.Caller caller.old caller.new }
-    ensures same { FindsMore W.Caller caller.old caller.new }
 {
     let Some(unlinked) = replaced.take() else {
         return Ok(());
@@ -227,19 +220,6 @@ fn retire_record<P: GracePlan + Drop, B: Site, D: Deleter, W: Caller<B>, R: Wait
 }
 
 impl<'d, P: GracePlan + Drop, B: Site, D: Deleter> RcuHash<'d, P, B, D> {
-    /// What earlier directories left, out of its lock, to which it is to be given back.
-    pub(crate) fn take_left<'t, R: Wait>(
-        &'t self,
-        rt: &R,
-    ) -> (
-        MutexGuard<'t, Option<OldTable<'d, P, B, D>>>,
-        OldTable<'d, P, B, D>,
-    )
-        ensures { result.1.naming.directory ≡ self.now.directory }
-    {
-        take(rt, &self.left, self.directory)
-    }
-
     /// The caller hears of a log in which nothing is left; or else of one in which this directory is linked. It waits
     /// for the table's locks.
     fn find_left<W: Caller<B>, R: Wait>(&self, rt: &R, caller: &mut W) -> Option<Naming>
@@ -248,7 +228,7 @@ impl<'d, P: GracePlan + Drop, B: Site, D: Deleter> RcuHash<'d, P, B, D> {
         ensures heard { IsAfter P.QSBR tabled (W.seen caller.old) (W.heard caller.old) (W.heard caller.new) }
         ensures same { OnlyHears W.Caller caller.old caller.new }
     {
-        let (mut place, left) = self.take_left(rt);
+        let (mut place, left) = take(rt, &self.left, self.directory);
         let left = left.tell(rt, &self.lock, caller);
         let naming = left.naming;
         let none = left.chains.len() == 0;
@@ -279,7 +259,6 @@ impl<'d, P: GracePlan + Drop, B: Site, D: Deleter> RcuHash<'d, P, B, D> {
         ensures uses { UsesUp P.QSBR B.sizes naming.directory W.Caller D.row.coded.code caller.old caller.new jobs.old.items jobs.new.items }
         ensures row { (first : ℕ) → AreFrom first (map (λ c. c.seat.me.0) chains.old.items) → AreFrom first (map (λ c. c.seat.me.0) chains.new.items) }
         ensures stopped { IfErr result (λ e. (IsSome replaced.new ⊎ (0 < objects_in (map (λ c. c.seat.me.0) chains.new.items))) × IsStopped W.Caller caller.new (IsQueueAmong B.sizes naming.directory (chains_in (map (λ c. c.seat.me.0) chains.new.items))) jobs.new.items e) }
-        ensures same { FindsMore W.Caller caller.old caller.new }
     {
         retire_record(rt, self.domain, caller, replaced, jobs)?;
         self.lock.clear_all(rt, naming, caller, chains, jobs)
@@ -331,9 +310,8 @@ impl<'d, P: GracePlan + Drop, B: Site, D: Deleter> RcuHash<'d, P, B, D> {
         ensures stopped { IfOk result (λ r. IfSome r.stop (λ e. (0 < r.left) × ((chains : List (ℕ × ℕ)) × CountsLeft W.Caller P.QSBR tabled caller.old caller.new naming.directory chains r.left × IsStopped W.Caller caller.new (IsQueueAmong B.sizes naming.directory (numbers_of chains)) r.jobs.items e))) }
         ensures heard { IfOk result (λ _. IsLiveRun P.QSBR tabled (W.heard caller.new)) }
         ensures back { IfErr result (λ js. (js ≡ jobs) × (caller.new ≡ caller.old)) }
-        ensures same { FindsMore W.Caller caller.old caller.new }
     {
-        let (mut place, left) = self.take_left(rt);
+        let (mut place, left) = take(rt, &self.left, self.directory);
         let is_its = left.naming.is(naming);
         if !is_its {
             *place = Some(left);
@@ -370,7 +348,7 @@ impl<'d, P: GracePlan + Drop, B: Site, D: Deleter> RcuHash<'d, P, B, D> {
         ensures heard { IsAfter P.QSBR tabled (W.seen caller.old) (W.heard caller.old) (W.heard caller.new) }
         ensures same { OnlyHears W.Caller caller.old caller.new }
     {
-        let (mut place, left) = self.take_left(rt);
+        let (mut place, left) = take(rt, &self.left, self.directory);
         let (left, many) = left.count(rt, &self.lock, caller);
         *place = Some(left);
         many

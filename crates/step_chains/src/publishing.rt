@@ -10,8 +10,8 @@ use crate::steps::{store_cut, store_push, store_replace};
 use live_rule::{ChainRule, GracePlan, LiveSeat, LiveTable};
 use step_records::store_link;
 
-/// Makes the seat's fresh record the first of its chain, whose head is `head`, in two stores: the record's link, and
-/// then the head, liburcu's `rcu_assign_pointer`.
+/// Makes the seat's fresh record the first of its chain, whose head is `head`: stores the record's link, where it is
+/// another word, and then the head, liburcu's `rcu_assign_pointer`.
 pub fn push<P: GracePlan, K: ChainRule>(
     table: &LiveTable<P, K>,
     seat: &mut LiveSeat,
@@ -29,9 +29,9 @@ pub fn push<P: GracePlan, K: ChainRule>(
     store_push(table, seat, chain, cell);
 }
 
-/// Puts the seat's fresh record in the place of an object, which `next` follows, in two stores: the record's link, and
-/// then the word that led to the object. The record `before` is that of the object before it, or none where it is the
-/// first one. The seat has the right to what was replaced.
+/// Puts the seat's fresh record in the place of an object, which `next` follows. It stores the record's link, where it
+/// is another word, and then the word that led to the object. The record `before` is that of the object before it, or
+/// none where it is the first one. The seat has the right to what was replaced.
 pub fn replace<P: GracePlan, K: ChainRule>(
     table: &LiveTable<P, K>,
     seat: &mut LiveSeat,

@@ -26,7 +26,7 @@ pub fn load_payload<P: GracePlan, K: ChainRule>(
     ensures looked { Went P.QSBR K.allows seat.old.me.0 seat.old.me seat.new.me }
     ensures published { In (state_of seat.new.me.0.seen).used (object_in seat.old.me.0.object) }
     ensures word { result ≡ slice_index_or (record_of seat.new.me.0.seen (object_in seat.old.me.0.object)).1 index 0 }
-    ensures waits { IsUnlinked seat.old.me.0 → ¬ In (state_of seat.new.me.0.seen).retired (object_in seat.old.me.0.object) }
+    ensures unretired { IsUnlinked seat.old.me.0 → ¬ In (state_of seat.new.me.0.seen).retired (object_in seat.old.me.0.object) }
 {
     let place = table.cell_place(cell, index + 2);
     table.words.shared.load::<LooksPayload<P, K>>(seat, place)

@@ -1,5 +1,5 @@
 -- What the steps of grace periods keep, and that what they tell may come, whoever asks.
-use Rattle.world.proofs.Cited.{◌≡◌, ◌≢◌, ◌⊎◌, ◌↔◌, ⊎_elim, ℕ, true≢false, inl, inr, ◌+◌, ◌^◌, ◌<◌, ◌≤◌, leb, ltb, cond, Bool, true, false, List, [], ◌∷◌, ◌++◌, length, slice_get, Option, Some, None, Result, Ok, Err, refl, sym, ap, ◌∙◌, subst, arith, ltb-true, leb-true, leb-false, cond_both, decide_number, get_past, past_or_within, slice_get-get_or, slice_get_past, SectionId, Refusal, Exhausted, at_number, State, AreAllowed, In, in_numbers, has_number_in, at_number_same, at_number_other, Layout, Action, Load, LoadGroup, StorePhase, StoreSeq, Finished, Turn, IsPresent, StoresInOrder, MayStore, present_after, even_below, cookie_for, SyncCore, turned, is_finished, Answer, Events, Quiet, Wait, Blocked, ReaderState, GraceState, Holder, new_reader, Plans, BoardView, told}
+use Rattle.world.proofs.Cited.{◌≡◌, ◌≢◌, ◌⊎◌, ◌↔◌, ⊎_elim, ℕ, true≢false, inl, inr, ◌+◌, ◌^◌, ◌<◌, ◌≤◌, leb, ltb, cond, Bool, true, false, List, [], ◌∷◌, ◌++◌, length, slice_get, Option, Some, None, Result, Ok, Err, refl, sym, ap, ◌∙◌, subst, arith, ltb-true, leb-true, leb-false, cond_both, decide_number, SectionId, Refusal, Exhausted, at_number, State, AreAllowed, In, in_numbers, has_number_in, at_number_same, at_number_other, Layout, Action, Load, LoadGroup, StorePhase, StoreSeq, Finished, Turn, IsPresent, StoresInOrder, MayStore, present_after, even_below, cookie_for, SyncCore, turned, is_finished, Answer, Events, Quiet, Wait, Blocked, GraceState, Holder, new_reader, Plans, BoardView, told}
 use Rattle.rcu_model.specs.declared.event.Event.TheVariants as events
 use Rattle.gp_memb.specs.declared.plan.Turn.TheVariants as turns
 use Rattle.call_rcu_worker.specs.declared.sync.SyncCore.TheVariants as core
@@ -8,9 +8,9 @@ use Rattle.call_rcu_worker.specs.Sync.{telling, asked_with as asking}
 use Rattle.world.specs.declared.grace.GraceStep.{GraceStep}
 use Rattle.world.specs.Grace.{stepped, loaded_word, action_effect, lock_effect, done_with, plan_now, grace_row}
 use Rattle.world.proofs.Fence.{Work, Rests, Waits, Checks, Starts, Runs, Frees, Pending, RunsNone, Laws, Sets, Running, runs_no_group, cookie-above, cookie-near, cookie-even}
-use Rattle.world.proofs.Periods.{Part, Marks, reached_empty, part_asked, part_locked, part_answered, part_checked, part_freed, part_turned, part_begun, part_ended}
+use Rattle.world.proofs.Periods.{first_second, Part, Marks, reached_empty, part_asked, part_locked, part_answered, part_checked, part_freed, part_turned, part_begun, part_ended}
 use Rattle.world.proofs.State.{Asker, decide_asker, asker_of, core_work, work_of, holder_of, word_at, IsUnderWay, Kept, marks_of}
-use Rattle.world.proofs.KeptReaders.{log_longer, log_one}
+use Rattle.world.proofs.KeptReaders.{entry_is, log_longer, log_one}
 
 module _ {P : Type 0} (plans : Plans P) (layout : Layout) (slots : ℕ) (laws : Laws plans layout slots) (w : BoardView P) (now : State) (k : Kept plans layout slots laws w now) where
   abbrev words : ℕ → ℕ
@@ -238,11 +238,8 @@ module _ {P : Type 0} (plans : Plans P) (layout : Layout) (slots : ℕ) (laws : 
         first : plans.action p ≡ StoreSeq (seq + 1)
         first = order.first
 
-        first_second : StoreSeq (seq + 1) ≡ StoreSeq (seq + 2) → ⊥
-        first_second e = let n : seq + 1 ≡ seq + 2 = cc in omega (arith, n)
-
         ends : is_finished (plans.action (plans.taken p 0)) ≡ true → Owed (stepped (record w.grace { seq = seq + 1 }) ask (telling what.Answered core.Frees))
-        ends e = absurd (first_second (sym first ∙ (order.last [] 0 (λ f. cc (sym first ∙ f))).0 (finished_from (plans.action (plans.taken p 0)) e)))
+        ends e = absurd (first_second seq (sym first ∙ (order.last [] 0 (λ f. cc (sym first ∙ f))).0 (finished_from (plans.action (plans.taken p 0)) e)))
 
         low : seq + 1 ≤ 2 ^ 62 + 2
         low =
@@ -255,13 +252,6 @@ module _ {P : Type 0} (plans : Plans P) (layout : Layout) (slots : ℕ) (laws : 
             (quietly (Runs ask c (plans.taken p 0)) (record w.grace { seq = seq + 1 }) steady k.phase_low low refl
             (λ works' s. part_begun plans layout slots laws decide_asker (holder_of w.grace.holder) works works' words w.grace.asks seq w.grace.word now.asked now.answered now.asked_sections now.sections y ask c is
             (subst (λ (z : P). Sets works works' y (Runs ask c (plans.taken z 0))) same s) marks is_present k.part))
-
-    -- the word that a scan loads
-    loaded_is : (slot : ℕ) → loaded_word (slice_get w.readers slot) ≡ words slot
-    loaded_is slot = ⊎_elim
-        (λ (l : slot < length w.readers). ap loaded_word (slice_get-get_or w.readers slot new_reader l))
-        (λ (g : length w.readers ≤ slot). ap loaded_word (slice_get_past w.readers slot g) ∙ sym (ap (λ (v : ReaderState). v.word) (get_past w.readers slot new_reader g)))
-        (past_or_within w.readers slot)
 
     module _ (c : ℕ) (p : P) (is : works y ≡ Runs ask c p) where
       running : Running plans layout slots laws w.grace.seq w.grace.word c p
@@ -351,7 +341,7 @@ module _ {P : Type 0} (plans : Plans P) (layout : Layout) (slots : ℕ) (laws : 
           goes e = absurd (true≢false (sym (ap is_finished done) ∙ e))
 
       owes_action : (a : Action) → plans.action p ≡ a → Owed (done_with plans w ask (core.Runs c p) (Some (action_effect w a)))
-      owes_action (Load slot) does = owes_middle w.grace (loaded_word (slice_get w.readers slot)) (λ v e. cc (sym does ∙ e)) (λ s e. loaded_is slot ∙ ap words (cc (sym does ∙ e)))
+      owes_action (Load slot) does = owes_middle w.grace (loaded_word (slice_get w.readers slot)) (λ v e. cc (sym does ∙ e)) (λ s e. entry_is loaded_word w.readers slot new_reader refl ∙ ap words (cc (sym does ∙ e)))
           (sym (ap (present_after w.grace.word) does)) steady (λ q. k.part.grace_kept.number_low q) k.phase_low refl refl refl
       owes_action (StorePhase value) does = owes_middle (record w.grace { word = value }) 0 (λ v e. cc (sym does ∙ e)) (λ s e. cc (sym does ∙ e))
           (sym (ap (present_after w.grace.word) does)) rises low phase refl refl refl

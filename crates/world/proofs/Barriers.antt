@@ -1,5 +1,5 @@
 -- What the steps of `barrier` keep, and that what they tell may come.
-use Rattle.world.proofs.Cited.{◌≡◌, ◌≢◌, ◌⊎◌, ⊎_elim, ℕ, true≢false, inl, inr, ◌+◌, ◌<◌, ◌≤◌, nat_le, nat_lt, ltb, not, true, false, List, [], ◌∷◌, ◌++◌, length, get_or, slice_get, slice_set, replicate, Option, None, Result, Ok, refl, sym, ap, ◌∙◌, subst, arith, get_or-set_other, get_or-set_same, length-set, leb-true, ltb-true, ltb-false, cond_both, slice_get-get_or, slice_get_past, ObjectId, SectionId, Refusal, ObjectState, has_object, at_number, State, not_run, In, has_object_in, has_number_in, in_numbers, empty_from, at_number_same, at_number_other, filter_has, Layout, items_of, WorkerCore, Quiet, Life, QueueState, Barrier, BarrierStep, Note, Check, UpdaterPlace, Idle, Retires, Bars, UpdaterState, Change, Bar, empty_queue_state, Plans, BoardView, get_past, past_or_within, decide_number, life_of, Items, InQueue, queue_at, stands_above, stands_within}
+use Rattle.world.proofs.Cited.{◌≡◌, ◌≢◌, ◌⊎◌, ⊎_elim, ℕ, true≢false, inl, inr, ◌+◌, ◌<◌, ◌≤◌, nat_le, nat_lt, ltb, not, true, false, List, [], ◌∷◌, ◌++◌, length, get_or, slice_get, slice_set, replicate, Option, None, Result, Ok, refl, sym, ap, ◌∙◌, subst, arith, get_or-set_other, get_or-set_same, length-set, leb-true, ltb-true, ltb-false, cond_both, ObjectId, SectionId, Refusal, ObjectState, has_object, at_number, State, not_run, In, has_object_in, has_number_in, in_numbers, empty_from, at_number_same, at_number_other, filter_has, Layout, items_of, WorkerCore, Quiet, Life, QueueState, Barrier, BarrierStep, Note, Check, UpdaterPlace, Idle, Retires, Bars, UpdaterState, Change, Bar, empty_queue_state, Plans, BoardView, decide_number, life_of, Items, InQueue, queue_at, stands_above, stands_within}
 use Rattle.rcu_model.specs.declared.event.Event.TheVariants as events
 use Rattle.call_rcu_worker.specs.declared.worker.WorkerCore.TheVariants as worker
 use Rattle.world_state.specs.declared.object.Life.TheVariants as life
@@ -8,23 +8,10 @@ use Rattle.world.specs.Queues.{at_place, queued_in, finished_in, after_note, not
 use Rattle.world.proofs.Fence.{Laws}
 use Rattle.world.proofs.State.{place_work, updater_at, worker_at, Kept, at_updaters}
 use Rattle.world.proofs.KeptPublishing.{There}
-use Rattle.world.proofs.KeptReaders.{longer, log_one}
+use Rattle.world.proofs.KeptReaders.{entry_is, longer, log_one}
 use Rattle.world.proofs.Callbacks.{LifeKept, RetireKept, WorkKept, Faces, IsAt, BarKept, Barring, CallbacksKept, Callbacks, queue_kept}
 use Rattle.world.proofs.Plain.{OwesAll}
 use Rattle.world.proofs.Beside.{kept_updater, beside}
-
--- the two counts of a queue
-queued_at : (qs : List QueueState) (i : ℕ) → queued_in (slice_get qs i) ≡ (queue_at qs i).queued
-queued_at qs i = ⊎_elim
-    (λ (l : i < length qs). ap queued_in (slice_get-get_or qs i empty_queue_state l))
-    (λ (g : length qs ≤ i). ap queued_in (slice_get_past qs i g) ∙ sym (ap (λ (q : QueueState). q.queued) (get_past qs i empty_queue_state g)))
-    (past_or_within qs i)
-
-finished_at : (qs : List QueueState) (i : ℕ) → finished_in (slice_get qs i) ≡ (queue_at qs i).finished
-finished_at qs i = ⊎_elim
-    (λ (l : i < length qs). ap finished_in (slice_get-get_or qs i empty_queue_state l))
-    (λ (g : length qs ≤ i). ap finished_in (slice_get_past qs i g) ∙ sym (ap (λ (q : QueueState). q.finished) (get_past qs i empty_queue_state g)))
-    (past_or_within qs i)
 
 -- no more was finished than has left the queue
 pub finished_low : {P : Type 0} (ready waiting : Items) (noted : Option ℕ) (gone finished : ℕ) (asked : List ℕ) (awaited : ObjectId → List SectionId) (asked_sections : ℕ → List SectionId) (ask : ℕ) (place : WorkerCore P Unit) →
@@ -104,7 +91,7 @@ module _ {P : Type 0} (plans : Plans P) (layout : Layout) (slots : ℕ) (laws : 
           at_count : (j ≡ i) ⊎ (j ≢ i) → s ≤ get_or (noted_at w counts i) j 0
           at_count (inl e) =
               let inside : i < length counts = omega (arith, at, room) in
-              let is : get_or (noted_at w counts i) j 0 ≡ (queue_at qs j).queued = ap (λ n. get_or (noted_at w counts i) n 0) e ∙ get_or-set_same counts i (queued_in (slice_get qs i)) 0 inside ∙ queued_at qs i ∙ ap (λ n. (queue_at qs n).queued) (sym e) in
+              let is : get_or (noted_at w counts i) j 0 ≡ (queue_at qs j).queued = ap (λ n. get_or (noted_at w counts i) n 0) e ∙ get_or-set_same counts i (queued_in (slice_get qs i)) 0 inside ∙ entry_is queued_in qs i empty_queue_state refl ∙ ap (λ n. (queue_at qs n).queued) (sym e) in
               let given = stands_within (queue_at qs j).items.gone (items_of (queue_at qs j).items) s o here in
               let announced = (k.queues j).announced in
               subst (λ n. s ≤ n) (sym is) (omega (arith, given, announced))
@@ -124,10 +111,9 @@ module _ {P : Type 0} (plans : Plans P) (layout : Layout) (slots : ℕ) (laws : 
       not_reclaimed g = true≢false (sym has.1 ∙ ap not (has_object_in now.reclaimed o g))
 
       queued : (l : Life) → life_of w.objects o ≡ l → life_of w.objects o ≡ life.Queued
-      queued life.Kept e = absurd ((subst (λ (l : Life). LifeKept l o now.retired now.queued now.reclaimed) e (k.items.lives o)).1 has.0)
-      queued life.Retired e = absurd ((subst (λ (l : Life). LifeKept l o now.retired now.queued now.reclaimed) e (k.items.lives o)).1 has.0)
       queued life.Queued e = e
       queued life.Reclaimed e = absurd (not_reclaimed (subst (λ (l : Life). LifeKept l o now.retired now.queued now.reclaimed) e (k.items.lives o)).2)
+      queued _ e = absurd ((subst (λ (l : Life). LifeKept l o now.retired now.queued now.reclaimed) e (k.items.lives o)).1 has.0)
 
       from : (j : ℕ) × (s : ℕ) × (j < count) × InQueue (queue_at qs j) s o → Faces qs (replicate 8 0) (Note 0) o
       from (j, s, low, here) = (j, s, low, here, λ below. absurd (omega (arith, below)))
@@ -173,12 +159,9 @@ module _ {P : Type 0} (plans : Plans P) (layout : Layout) (slots : ℕ) (laws : 
     mine : BarKept {P = P} qs now.noted now.cleared now.noted_objects (Bars b)
     mine = subst (BarKept qs now.noted now.cleared now.noted_objects) (ap (λ (y : UpdaterState P). y.place) t.is ∙ was) (k.barring u)
 
-    my_place : place_of u ≡ Bars b
-    my_place = ap (λ (y : UpdaterState P). y.place) t.is ∙ was
-
     -- another barrier has another number
     alone : (n v : ℕ) → v ≢ u → b.number ≡ n → Barring (place_of v) n → ⊥
-    alone n v apart e theirs = apart (k.one_barrier v u n theirs (subst (λ (p : UpdaterPlace P). Barring p n) (sym my_place) e))
+    alone n v apart e theirs = apart (k.one_barrier v u n theirs (subst (λ (p : UpdaterPlace P). Barring p n) (sym (ap (λ (y : UpdaterState P). y.place) t.is ∙ was)) e))
 
     -- the barrier goes on
     goes_on : (b' : Barrier) → b'.number ≡ b.number → count ≤ length b'.counts → IsAt b'.due count → ((o : ObjectId) → In (now.noted_objects b.number) o → Faces qs b'.counts b'.due o) →
@@ -204,7 +187,7 @@ module _ {P : Type 0} (plans : Plans P) (layout : Layout) (slots : ℕ) (laws : 
       where
         not_here : j ≢ i
         not_here e =
-            let finished : get_or b.counts j 0 ≤ (queue_at qs j).finished = subst (λ n. get_or b.counts n 0 ≤ (queue_at qs n).finished) (sym e) (subst (λ n. get_or b.counts i 0 ≤ n) (finished_at qs i) done) in
+            let finished : get_or b.counts j 0 ≤ (queue_at qs j).finished = subst (λ n. get_or b.counts n 0 ≤ (queue_at qs n).finished) (sym e) (subst (λ n. get_or b.counts i 0 ≤ n) (entry_is finished_in qs i empty_queue_state refl) done) in
             let q = queue_at qs j in
             let gone = finished_low q.items.ready q.items.waiting q.items.cookie q.items.gone q.finished now.asked now.awaited now.asked_sections (worker_at w.workers j).ask (worker_at w.workers j).core (k.working j) in
             let above = stands_above q.items.gone (items_of q.items) s o here in

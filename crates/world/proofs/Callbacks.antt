@@ -1,5 +1,5 @@
 -- What the world keeps of retired objects, queues, workers and barriers beside the machine.
-use Rattle.world.proofs.Cited.{◌≡◌, ◌≢◌, ◌⊎◌, inl, inr, ℕ, ◌+◌, ◌%◌, ◌<◌, ◌≤◌, Bool, true, false, List, [], ◌∷◌, ◌++◌, length, get_or, slice_get, Option, Some, None, sym, ap, ◌∙◌, subst, arith, Event, Open, Close, First, Next, Retire, Queue, Run, Ask, Clear, ObjectId, SectionId, without_section, at_number, State, IsAllowed, after, In, in_left, has_number_in, without_section_has, has_without_section, at_number_other, given_of, SyncCore, WorkerCore, Life, ObjectState, QueueState, BarrierStep, Note, Check, RetireStep, UpdaterPlace, Retires, Bars, UpdaterState, WorkerState, changed_at, BoardView, stage_of, chain_of, decide_number, life_of, Items, Has, InQueue, queue_at, changed_here, changed_else}
+use Rattle.world.proofs.Cited.{mod_below, slice_get_within, ◌≡◌, ◌≢◌, ◌⊎◌, inl, inr, ℕ, ◌+◌, ◌%◌, ◌<◌, ◌≤◌, Bool, true, false, List, [], ◌∷◌, ◌++◌, length, get_or, slice_get, Option, Some, None, sym, ap, ◌∙◌, subst, arith, Event, Open, Close, First, Next, Retire, Queue, Run, Ask, Clear, ObjectId, SectionId, without_section, at_number, State, IsAllowed, after, In, in_left, has_number_in, without_section_has, has_without_section, at_number_other, given_of, SyncCore, WorkerCore, Life, ObjectState, QueueState, BarrierStep, Note, Check, RetireStep, UpdaterPlace, Retires, Bars, UpdaterState, WorkerState, changed_at, BoardView, stage_of, chain_of, decide_number, life_of, Items, Has, InQueue, queue_at, changed_here, changed_else}
 use Rattle.rcu_model.specs.declared.event.Event.TheVariants.{Bar}
 use Rattle.call_rcu_worker.specs.declared.sync.SyncCore.TheVariants as core
 use Rattle.call_rcu_worker.specs.declared.worker.WorkerCore.TheVariants as worker
@@ -113,6 +113,13 @@ pub record Sizes {P : Type 0} (qs : List QueueState) (workers : List (WorkerStat
 
 pub sizes_over : {P : Type 0} {qs qs' : List QueueState} {workers workers' : List (WorkerState P)} → length qs' ≡ length qs → length workers' ≡ length workers → Sizes qs workers → Sizes qs' workers'
 sizes_over queues same s = record { some = subst (λ n. 1 ≤ n) (sym queues) s.some; few = subst (λ n. n ≤ 8) (sym queues) s.few; manned = same ∙ s.manned ∙ sym queues }
+
+-- an updater has a queue, and so has a worker
+pub own_queue : {P : Type 0} {qs : List QueueState} {workers : List (WorkerState P)} (u : ℕ) → Sizes qs workers → u % length qs < length qs
+own_queue {qs = qs} u s = let some = s.some in mod_below u (length qs) (omega (arith, some))
+
+pub its_queue : {P : Type 0} {qs : List QueueState} {workers : List (WorkerState P)} (k : ℕ) (x : WorkerState P) → Sizes qs workers → slice_get workers k ≡ Some x → k < length qs
+its_queue {workers = workers} k x s was = subst (λ n. k < n) s.manned (slice_get_within workers k x was)
 
 -- what was noted has a number, and nothing else was cleared
 pub record Numbers (barriers logged : ℕ) (noted cleared : List ℕ) : Type 0 where

@@ -41,7 +41,7 @@ pub use Rattle.std.proofs.Common.{Bool, Err, IsPermutation, IsTrue, List, None, 
 pub use Rattle.std.proofs.Math.ListN.{length-set}
 pub use Rattle.std.proofs.lemmas.Bool.{and_parts, cond-false, cond-true, cond_both, eq-eqb, eqb-false, eqb-true, le-leb, leb-false, leb-true, lt-leb, lt-ltb, ltb-false, ltb-true, ne_eqb, not-false, not-true, or_parts}
 pub use Rattle.std.proofs.lemmas.Bool.Decides.{eqb_tells, leb_tells}
-pub use Rattle.std.proofs.lemmas.List.{append_assoc, length-replicate}
+pub use Rattle.std.proofs.lemmas.List.{append_assoc, length-replicate, nil_from_length}
 pub use Rattle.std.proofs.lemmas.List.Elements.{All-from_recursion, filter_map-append}
 pub use Rattle.std.proofs.lemmas.List.FromFn.{length-range_with_len}
 pub use Rattle.std.proofs.lemmas.List.Sorted.{IsPermutation-append_right, IsPermutation-middle, IsPermutation-pop_more, IsPermutation-push_more, IsPermutation-refl, IsPermutation-sym, IsPermutation-trans}

@@ -1,5 +1,5 @@
 -- A drain's steps: where a worker stands alone, its next line is made, and leads to where it stands with one step less.
-use Rattle.world.proofs.Cited.{◌≡◌, ◌≢◌, ◌↔◌, ℕ, zero, suc, ◌+◌, ◌*◌, ◌%◌, ◌^◌, ◌<◌, ◌≤◌, ltb, cond_both, Bool, true, false, not, List, [], ◌∷◌, length, length-append, slice_get, slice_set, Option, Some, None, Result, Ok, refl, sym, ap, ◌∙◌, subst, arith, or_parts, le-leb, lt-leb, lt-ltb, ltb-true, ltb-false, Refusal, Layout, Narrow, Wide, Item, items_of, after_advance, Action, Load, StoreSeq, Finished, after_loads, FinishesAfter, each_turn, turn_at, turn_count, went_on, SyncCore, WorkerCore, rest_of, turned, is_finished, Change, Work, Answer, Quiet, Worker, Mark, QueueAct, QueueState, ReaderState, GraceState, Holder, WorkerState, acted, changed_at, is_open_in, Items, Plans, BoardView, told}
+use Rattle.world.proofs.Cited.{nil_from_length, ◌≡◌, ◌≢◌, ◌↔◌, ℕ, zero, suc, ◌+◌, ◌*◌, ◌%◌, ◌^◌, ◌<◌, ◌≤◌, ltb, cond_both, Bool, true, false, not, List, [], ◌∷◌, length, length-append, slice_get, slice_set, Option, Some, None, Result, Ok, refl, sym, ap, ◌∙◌, subst, arith, or_parts, le-leb, lt-leb, lt-ltb, ltb-true, ltb-false, Refusal, Layout, Narrow, Wide, Item, items_of, after_advance, Action, Load, StoreSeq, Finished, after_loads, FinishesAfter, each_turn, turn_at, turn_count, went_on, SyncCore, WorkerCore, rest_of, turned, is_finished, Change, Work, Answer, Quiet, Worker, Mark, QueueAct, QueueState, ReaderState, GraceState, Holder, WorkerState, acted, changed_at, is_open_in, Items, Plans, BoardView, told}
 use Rattle.callback_queue.specs.Queue.{Queue}
 use Rattle.gp_memb.specs.declared.plan.Turn.TheVariants as turns
 use Rattle.call_rcu_worker.specs.declared.sync.SyncCore.TheVariants as core
@@ -38,10 +38,6 @@ set_there [] zero x y e = absurd (cc)
 set_there [] (suc k) x y e = absurd (cc)
 set_there (z ∷ zs) zero x y e = refl
 set_there (z ∷ zs) (suc k) x y e = set_there zs k x y e
-
-pub none_left : {X : Type 0} (xs : List X) → length xs ≡ 0 → xs ≡ []
-none_left [] e = refl
-none_left (x ∷ xs) e = absurd (cc)
 
 -- how many items are ready, and how many wait, of a batch of this many; none is fresh
 abbrev pub Batch : Queue (Item Unit) → ℕ → ℕ → ℕ → Type 0
@@ -188,7 +184,7 @@ module _ {P : Type 0} (plans : Plans P) where
     goes sound (worker.Runs t ticket item) s = absurd s
     goes sound (worker.Ran t ticket item) s = cond_both (ltb 1 t.left) (worker.Pops (rest_of t)) worker.Idle (λ (c : WorkerCore P Unit). Made (Ok (Work k (with_core x c) w.grace act.Finish None Quiet)))
         (λ more. let m = ltb-true 1 t.left more in leads events tt (omega arith) (omega arith, omega arith, (omega arith, omega arith, s.2.2, s.2.3), s.3))
-        (λ none. let m = ltb-false 1 t.left none in leads events tt (omega arith) (omega arith, omega arith, none_left (items_of q.items) (simp length-append (omega arith)), s.3))
+        (λ none. let m = ltb-false 1 t.left none in leads events tt (omega arith) (omega arith, omega arith, nil_from_length (items_of q.items) (simp length-append (omega arith)), s.3))
     goes sound (worker.Counts t ticket) s = absurd s
 
   -- a line that goes on

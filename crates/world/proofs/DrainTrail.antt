@@ -1,7 +1,6 @@
 -- A drain from its `take` to its last count, on the board's definitions.
-use Rattle.world.proofs.Cited.{◌≡◌, ◌≢◌, ℕ, zero, suc, ◌+◌, ◌-◌, ◌*◌, ◌^◌, ◌<◌, ◌≤◌, ltb, cond, Bool, true, false, List, [], ◌∷◌, ◌++◌, length, replicate, slice_get, Option, Some, None, Ok, Err, refl, sym, ap, ◌∙◌, subst, arith, or_parts, lt-ltb, ltb-true, ne_eqb, Busy, Exhausted, Item, items_of, turn_count, WorkerCore, Worker, QueueState, WorkerState, Items, Plans, BoardView}
+use Rattle.world.proofs.Cited.{nil_from_length, ◌≡◌, ◌≢◌, ℕ, zero, suc, ◌+◌, ◌-◌, ◌*◌, ◌^◌, ◌<◌, ◌≤◌, ltb, cond, Bool, true, false, List, [], ◌∷◌, length, replicate, slice_get, Option, Some, None, Ok, Err, refl, sym, ap, ◌∙◌, subst, arith, or_parts, lt-ltb, ltb-true, ne_eqb, Busy, Exhausted, items_of, turn_count, WorkerCore, Worker, QueueState, WorkerState, Items, Plans, BoardView}
 use Rattle.std.specs.Prelude.{is_some}
-use Rattle.callback_queue.specs.Queue.{Queue}
 use Rattle.call_rcu_worker.specs.declared.sync.SyncCore.TheVariants as core
 use Rattle.call_rcu_worker.specs.declared.worker.WorkerCore.TheVariants as worker
 use Rattle.world_state.specs.declared.line.WorkerVerb.TheVariants as verb
@@ -11,16 +10,13 @@ use Rattle.world.specs.Workers.{is_none_left}
 use Rattle.world.specs.Drain.{some_open, steps_for, drain_lines, is_busy, items_in, items_to_drain, steps_with, IsWork, HasDrained, AreMadeFrom, Tells, Drains, IsSettled}
 use Rattle.world.proofs.Reaching.{reached_step}
 use Rattle.world.proofs.Rows.{rest_tells}
+use Rattle.world.proofs.WorkerSteps.{all_fresh}
 use Rattle.world.proofs.Tests.{not_false, none_is}
-use Rattle.world.proofs.DrainSteps.{none_left, AreSound, Stands, Drain, Goes, leads, goes_at}
+use Rattle.world.proofs.DrainSteps.{AreSound, Stands, Drain, Goes, leads, goes_at}
 
 some_left : {X : Type 0} (xs : List X) → xs ≢ [] → is_none_left xs ≡ false
 some_left [] n = absurd (n refl)
 some_left (y ∷ ys) n = refl
-
--- where the worker rests, all items are fresh
-all_fresh : (i : Queue (Item Unit)) → i.ready ≡ [] → i.waiting ≡ [] → items_of i ≡ i.fresh
-all_fresh i none_ready none_waiting = ap (λ (l : Items). l ++ i.waiting ++ i.fresh) none_ready ∙ ap (λ (l : Items). l ++ i.fresh) none_waiting
 
 -- the number of steps: the `take` and those behind it
 steps_count : (qsbr : Bool) (slots items : ℕ) → 1 ≤ items → steps_for qsbr slots items ≡ suc (turn_count qsbr slots + 4 + 2 * items)
@@ -121,7 +117,7 @@ module _ {P : Type 0} (plans : Plans P) where
 
     -- nothing is queued
     pub drained_none : items ≡ 0 → Drains plans k w w (Ok 0)
-    drained_none none = (ap (steps_with plans.qsbr (length w.readers)) (e ∙ ap Ok none), refl, tt, rw (b.is, b.has) (rests.3, (none_left (items_of b.q.items) (b.count ∙ none), empty.2), rests.1))
+    drained_none none = (ap (steps_with plans.qsbr (length w.readers)) (e ∙ ap Ok none), refl, tt, rw (b.is, b.has) (rests.3, (nil_from_length (items_of b.q.items) (b.count ∙ none), empty.2), rests.1))
 
     -- a drain begins with its `take`
     module _ (sound : AreSound plans) (some : 1 ≤ items) where

@@ -1,6 +1,6 @@
 -- In each world that lines lead to, a row whose tests pass is made: nothing is missing. And a scan waits exactly where
 -- the word that it loads stands in the way.
-use Rattle.world.proofs.Cited.{◌≡◌, ◌+◌, ◌<◌, ◌==◌, ℕ, true≢false, not, Bool, true, false, List, [], ◌∷◌, length, get_or, slice_get, Option, Some, None, Ok, Err, refl, sym, ap, ◌∙◌, subst, arith, cond-true, mod_below, slice_get-get_or, slice_get_within, get_or_from_slice_get, none-some, ObjectId, State, start, after_all, Layout, count_of, fresh, Action, Finished, after_loads, turn_at, Item, object_with, SyncCore, WorkerCore, new_core, turned, told_of, Change, Line, Reader, Updater, Worker, UpdaterVerb, WorkerVerb, Fresh, Linked, QueueState, ReaderState, Holder, Publishing, RetireStep, UpdaterPlace, Publishes, Syncs, UpdaterState, WorkerState, new_worker, empty_queue_state, is_open_in, Plans, BoardView, answer_of, idle, PlaceKept, no_object, within}
+use Rattle.world.proofs.Cited.{◌≡◌, ◌+◌, ◌<◌, ◌==◌, ℕ, true≢false, not, Bool, true, false, List, [], ◌∷◌, length, get_or, slice_get, Option, Some, None, Ok, Err, refl, sym, ap, ◌∙◌, subst, arith, cond-true, slice_get-get_or, get_or_from_slice_get, none-some, ObjectId, State, start, after_all, Layout, count_of, fresh, Action, Finished, after_loads, turn_at, Item, object_with, SyncCore, WorkerCore, new_core, turned, told_of, Change, Line, Reader, Updater, Worker, UpdaterVerb, WorkerVerb, Fresh, Linked, QueueState, ReaderState, Holder, Publishing, RetireStep, UpdaterPlace, Publishes, Syncs, UpdaterState, WorkerState, new_worker, empty_queue_state, is_open_in, Plans, BoardView, answer_of, idle, PlaceKept, no_object, within}
 use Rattle.call_rcu_worker.specs.declared.sync.SyncCore.TheVariants as core
 use Rattle.call_rcu_worker.specs.declared.worker.WorkerCore.TheVariants as worker
 use Rattle.world_state.specs.declared.line.UpdaterVerb.TheVariants as updater
@@ -17,7 +17,7 @@ use Rattle.world.specs.Steps.{IsPrompt}
 use Rattle.world.specs.Tests.{exact, line_tests}
 use Rattle.world.specs.Workers.{first_in, worker_on, worked, ask_for, is_resting}
 use Rattle.world.proofs.Asking.{is_present}
-use Rattle.world.proofs.Callbacks.{WorkAt}
+use Rattle.world.proofs.Callbacks.{WorkAt, own_queue, its_queue}
 use Rattle.world.proofs.Fence.{Laws, Running}
 use Rattle.world.proofs.GraceRows.{TurnRow, Blocking, Standing, turn_of}
 use Rattle.world.proofs.KeptReaders.{there as reader_there}
@@ -70,18 +70,15 @@ module _ {P : Type 0} (plans : Plans P) (layout : Layout) (slots : ℕ) (laws : 
     work_now k x core at = subst (λ (c : WorkerCore P Unit). WorkAt (get_or w.queues k empty_queue_state) now.asked now.awaited now.asked_sections (record x { core = c })) at.at
         (subst (λ (y : WorkerState P). WorkAt (get_or w.queues k empty_queue_state) now.asked now.awaited now.asked_sections y) (get_or_from_slice_get w.workers k x new_worker at.was) (l.callbacks.working k))
 
-    manned : (k : ℕ) (x : WorkerState P) → slice_get w.workers k ≡ Some x → k < length w.queues
-    manned k x was = subst (λ m. k < m) l.callbacks.sizes.manned (slice_get_within w.workers k x was)
-
     -- nothing is missing
     nothing_lacks : Lack plans w → ⊥
     nothing_lacks (NoNext r v o was from none) = object_there o (within w.objects o ((reader_there plans layout slots laws w now l.kept r v was).mine.holds o from).2) none
     nothing_lacks (NoEntry r v copied e was has memb full) = let same : Ok (fresh w.layout (copied == 1)) ≡ Err e = sym (cond-true (count_of w.layout v.word == 0) _ _ (closed r v copied was has memb)) ∙ full in cc
-    nothing_lacks (NoQueue u none) = let some = l.callbacks.sizes.some in queue_there (queue_of w u) (mod_below u (length w.queues) (omega (arith, some))) none
+    nothing_lacks (NoQueue u none) = queue_there (queue_of w u) (own_queue u l.callbacks.sizes) none
     nothing_lacks (NoPushed u x new at none) = object_there new (place_now u x (publishing.Push new) at).0.1 none
     nothing_lacks (NoReplaced u x old new at none) = object_there old (within w.objects old (λ f. let linked = (place_now u x (publishing.Replace old new) at).2 in let e : Linked ≡ Fresh = sym linked ∙ f in cc)) none
-    nothing_lacks (NoBatch k x was none) = queue_there k (manned k x was) none
-    nothing_lacks (NoneReady k x tickets at none) = by mine.items.ready (work_now k x (worker.Pops tickets) at).1 (sym (ap first_in (slice_get-get_or w.queues k empty_queue_state (manned k x at.was))) ∙ none)
+    nothing_lacks (NoBatch k x was none) = queue_there k (its_queue k x l.callbacks.sizes was) none
+    nothing_lacks (NoneReady k x tickets at none) = by mine.items.ready (work_now k x (worker.Pops tickets) at).1 (sym (ap first_in (slice_get-get_or w.queues k empty_queue_state (its_queue k x l.callbacks.sizes at.was))) ∙ none)
       where
         mine : QueueState
         mine = get_or w.queues k empty_queue_state

@@ -71,7 +71,7 @@ module _ {P : Type 0} (plans : Plans P) (w : BoardView P) (me : Holder) (ask : �
   each_turn Frees = Freeing
   each_turn Done = Resting
 
-  -- what holds of each step that is made
+  -- the row of a step that is made
   pub turn_of : (sync : SyncCore P) (step : GraceStep P) → grace_row plans w me ask sync ≡ Ok step → TurnRow sync (Ok step)
   turn_of sync step is = subst (TurnRow sync) is (each_turn sync)
 

@@ -1,5 +1,5 @@
 -- What the steps of updaters that publish, replace and cut keep, and that what they tell may come.
-use Rattle.world.proofs.Cited.{◌≡◌, ◌≢◌, ◌⊎◌, at_number, ⊎_elim, ℕ, true≢false, inl, inr, ◌<◌, ◌%◌, ◌&&◌, cond, Bool, true, false, List, [], ◌∷◌, ◌++◌, length, slice_get, slice_set, Option, Some, None, Ok, refl, sym, ap, ◌∙◌, subst, arith, length-set, eqb-true, and_parts, none-some, same_Some, slice_get_within, get_or_from_slice_get, Event, Push, Replace, Cut, ObjectId, without_object, next_of, replaced, at_object, State, IsAllowed, after, In, in_objects, has_object_in, at_number_same, at_number_other, at_object_same, at_object_other, follows, some_is, none_some, ChainKept, Spliced, push_splices, cut_splices, replace_splices, Layout, Stage, Fresh, Linked, ObjectState, Splice, Publishing, UpdaterState, UpdaterPlace, Idle, Publishes, Syncs, Change, Begin, Publish, fresh_object, is_linked, spliced_heads, spliced_objects, Plans, BoardView, idle, changed, no_object, object_at, head_of, link_of, before_of, stage_of, chain_of, grown_same, word_of, LinksKept, FreshIn, PlaceKept, Fits, Follows, monotone, links_spliced, place_spliced, new_object, new_within, stage_grown, links_grown, place_grown, reader_at, readers_over}
+use Rattle.world.proofs.Cited.{◌≡◌, ◌≢◌, ◌⊎◌, at_number, ⊎_elim, ℕ, true≢false, inl, inr, ◌<◌, ◌%◌, ◌&&◌, cond, Bool, true, false, List, [], ◌∷◌, ◌++◌, length, slice_get, slice_set, Option, Some, None, Ok, refl, sym, ap, ◌∙◌, subst, arith, length-set, eqb-true, and_parts, none-some, same_Some, slice_get_within, get_or_from_slice_get, Event, Push, Replace, Cut, ObjectId, without_object, next_of, replaced, at_object, State, IsAllowed, after, In, in_objects, has_object_in, at_number_same, at_number_other, at_object_same, at_object_other, follows, some_is, none_some, Spliced, push_splices, cut_splices, replace_splices, Layout, Stage, Fresh, Linked, ObjectState, Splice, Publishing, UpdaterState, UpdaterPlace, Idle, Publishes, Syncs, Begin, Publish, fresh_object, is_linked, spliced_heads, spliced_objects, Plans, BoardView, idle, changed, no_object, object_at, head_of, link_of, before_of, stage_of, chain_of, grown_same, LinksKept, FreshIn, PlaceKept, Fits, Follows, monotone, links_spliced, place_spliced, new_object, new_within, stage_grown, links_grown, place_grown, reader_at, readers_over}
 use Rattle.world_state.specs.declared.object.Stage.TheVariants.{Cut as IsCut}
 use Rattle.world_state.specs.declared.updater.Publishing.TheVariants as publishing
 use Rattle.world.specs.Chains.{writes, next_object, linked_by}
@@ -228,47 +228,29 @@ module _ {P : Type 0} (plans : Plans P) (layout : Layout) (slots : ℕ) (laws : 
   -- the second step of `push`
   pub owes_pushed : (u : ℕ) (x : UpdaterState P) (m : ObjectId) (z : ObjectState) → There u x → place_work x.place ≡ Rests → PlaceKept w.heads w.objects count u (publishing.Push m) → slice_get w.objects m.0 ≡ Some z →
       Owes plans layout slots laws w now (Ok (Publish u (record x { place = Idle }) (record { chain = z.chain; before = None; after = z.link; leaves = None; enters = Some m }) (Push z.chain m)))
-  owes_pushed u x m z t was mine at_m = subst (λ (y : ObjectState). Owes plans layout slots laws w now (Ok (change y))) (get_or_from_slice_get w.objects m.0 z no_object at_m) done
-    where
-      x' : UpdaterState P
-      x' = record x { place = Idle }
-
-      change : ObjectState → Change P
-      change y = Publish u x' (record { chain = y.chain; before = None; after = y.link; leaves = None; enters = Some m }) (Push y.chain m)
-
-      c : ℕ
-      c = chain_of w.objects m
-
-      xs : List ObjectId
-      xs = now.chain c
-
-      ck : ChainKept xs (word_of w.heads w.objects c) (before_of w.objects)
-      ck = links.chains c
-
-      new : ¬ In xs m
-      new h = cc (sym (links.linked c m h).0 ∙ mine.0.0)
-
-      s : Splice
-      s = record { chain = c; before = None; after = link_of w.objects m; leaves = None; enters = Some m }
-
-      done : Owes plans layout slots laws w now (Ok (Publish u x' s (Push c m)))
-      done = owes_publish u x x' s (Push c m) (m ∷ xs) t refl was refl mine.1
-          (record {
-            spliced = subst (λ (n : Option ObjectId). Spliced xs (m ∷ xs) None n None (Some m)) (sym (mine.3 ∙ ck.words None tt)) (push_splices xs m ck.once new);
-            in_chains = mine.2;
-            fresh = λ o e. subst (λ (q : ObjectId). FreshIn w.objects q × (chain_of w.objects q ≡ c) × (link_of w.objects q ≡ link_of w.objects m)) (some_is m o e) (mine.0, refl, refl);
-          })
-          (λ h. links.used_known m (in_objects now.used m h) mine.0.0) _ _ _ _
-          (record {
-            chain_is = at_number_same c (m ∷ xs) now.chain;
-            chain_else = λ d apart. at_number_other c d (m ∷ xs) now.chain apart;
-            used_is = λ p h. ⊎_elim (λ (e : m ≡ p). inl (ap Some e)) (λ (g : In now.used p). inr g) h;
-            cut_is = λ p h. inr h;
-            cut_on = λ p h. h;
-            cut_new = λ p e. absurd (none_some p e);
-            successor_else = λ p apart. refl;
-          })
-          refl
+  owes_pushed u x m z t was mine at_m =
+      let c = chain_of w.objects m in
+      let xs = now.chain c in
+      let ck = links.chains c in
+      let new : ¬ In xs m = λ h. cc (sym (links.linked c m h).0 ∙ mine.0.0) in
+      subst (λ (y : ObjectState). Owes plans layout slots laws w now (Ok (Publish u (record x { place = Idle }) (record { chain = y.chain; before = None; after = y.link; leaves = None; enters = Some m }) (Push y.chain m)))) (get_or_from_slice_get w.objects m.0 z no_object at_m)
+      (owes_publish u x (record x { place = Idle }) (record { chain = c; before = None; after = link_of w.objects m; leaves = None; enters = Some m }) (Push c m) (m ∷ xs) t refl was refl mine.1
+      (record {
+        spliced = subst (λ (n : Option ObjectId). Spliced xs (m ∷ xs) None n None (Some m)) (sym (mine.3 ∙ ck.words None tt)) (push_splices xs m ck.once new);
+        in_chains = mine.2;
+        fresh = λ o e. subst (λ (q : ObjectId). FreshIn w.objects q × (chain_of w.objects q ≡ c) × (link_of w.objects q ≡ link_of w.objects m)) (some_is m o e) (mine.0, refl, refl);
+      })
+      (λ h. links.used_known m (in_objects now.used m h) mine.0.0) _ _ _ _
+      (record {
+        chain_is = at_number_same c (m ∷ xs) now.chain;
+        chain_else = λ d apart. at_number_other c d (m ∷ xs) now.chain apart;
+        used_is = λ p h. ⊎_elim (λ (e : m ≡ p). inl (ap Some e)) (λ (g : In now.used p). inr g) h;
+        cut_is = λ p h. inr h;
+        cut_on = λ p h. h;
+        cut_new = λ p e. absurd (none_some p e);
+        successor_else = λ p apart. refl;
+      })
+      refl)
 
   -- the second step of `replace`
   pub owes_replaced : (u : ℕ) (x : UpdaterState P) (o m : ObjectId) (z : ObjectState) → There u x → place_work x.place ≡ Rests → PlaceKept w.heads w.objects count u (publishing.Replace o m) → slice_get w.objects o.0 ≡ Some z →

@@ -1,5 +1,5 @@
 -- What the steps of readers keep, and that what they tell may come.
-use Rattle.world.proofs.Cited.{◌≡◌, ◌≢◌, ◌⊎◌, inl, inr, ⊎_elim, ℕ, ◌+◌, ◌<◌, ◌≤◌, ◌==◌, not, Bool, true, false, List, [], ◌∷◌, ◌++◌, length, slice_get, slice_set, Option, Some, None, Ok, refl, sym, ap, ◌∙◌, subst, arith, true≢false, length-append, get_or-set_other, get_or-set_same, length-set, eqb-true, eqb-false, ne_eqb, slice_get_within, get_or_from_slice_get, Event, Open, Close, First, Next, Touch, ObjectId, SectionId, without_section, at_section, first_of, next_of, State, got, IsSuccessor, In, in_sections, has_section_in, in_objects, has_object_in, in_left, in_last, in_more, section_tells, Tells, without_section_has, has_without_section, at_section_same, at_section_other, some_is, none_some, first_has, follows_has, same_section, Layout, count_of, phase_in, is_open_of, left_of, is_online, announced, entered_of-nests, entered_of-opens, left_of-nests, Shows, Answer, Events, Quiet, ReaderState, ReaderStep, ObjectState, Stage, Fresh, Linked, Read, Plans, BoardView, told, changed, section_of, new_reader, is_open_in, quietly, telling, with_word, opened, closed, with_cursor, found_row, no_object, link_of, stage_of, chain_of, LinksKept, decide_number, reader_at, ReaderKept, readers_set}
+use Rattle.world.proofs.Cited.{slice_get-get_or, slice_get_past, get_past, past_or_within, get_or, ◌≡◌, ◌≢◌, ◌⊎◌, inl, inr, ⊎_elim, ℕ, ◌+◌, ◌<◌, ◌≤◌, ◌==◌, not, Bool, true, false, List, [], ◌∷◌, ◌++◌, length, slice_get, slice_set, Option, Some, None, Ok, refl, sym, ap, ◌∙◌, subst, arith, true≢false, length-append, get_or-set_other, get_or-set_same, length-set, eqb-true, eqb-false, ne_eqb, slice_get_within, get_or_from_slice_get, Event, Open, Close, First, Next, Touch, ObjectId, SectionId, without_section, at_section, first_of, next_of, State, got, IsSuccessor, In, in_sections, has_section_in, in_objects, has_object_in, in_left, in_last, in_more, section_tells, Tells, without_section_has, has_without_section, at_section_same, at_section_other, some_is, none_some, first_has, follows_has, same_section, Layout, count_of, phase_in, is_open_of, left_of, is_online, announced, entered_of-nests, entered_of-opens, left_of-nests, Shows, Answer, Events, Quiet, ReaderState, ReaderStep, ObjectState, Stage, Fresh, Linked, Read, Plans, BoardView, told, changed, section_of, new_reader, is_open_in, quietly, telling, with_word, opened, closed, with_cursor, found_row, no_object, link_of, stage_of, chain_of, LinksKept, decide_number, reader_at, ReaderKept, readers_set}
 use Rattle.world_state.specs.declared.object.Stage.TheVariants.{Cut as IsCut}
 use Rattle.world.proofs.Fence.{Laws}
 use Rattle.world.proofs.Periods.{part_words}
@@ -15,6 +15,14 @@ decide_section s t = by (section_tells s t)
     by (inl y) = inl y.1
     by (inr n) = inr n.1
 
+-- what is read of an entry of a list, there or past its end
+pub entry_is : {X Y : Type 0} (f : Option X → Y) (xs : List X) (i : ℕ) (d : X) → f None ≡ f (Some d) → f (slice_get xs i) ≡ f (Some (get_or xs i d))
+entry_is f xs i d none = ⊎_elim
+    (λ (l : i < length xs). ap f (slice_get-get_or xs i d l))
+    (λ (g : length xs ≤ i). ap f (slice_get_past xs i g) ∙ none ∙ sym (ap (λ x. f (Some x)) (get_past xs i d g)))
+    (past_or_within xs i)
+
+-- a log with more behind it is longer
 pub longer : (log es : List Event) → length log ≤ length (log ++ es)
 longer log es = omega (arith, length-append log es)
 
@@ -117,18 +125,18 @@ module _ {P : Type 0} (plans : Plans P) (layout : Layout) (slots : ℕ) (laws : 
   abbrev pub OwesRead : ℕ → ReaderStep → Type 0
   OwesRead r step = Owes plans layout slots laws w now (Ok (Read r step))
 
-  -- nothing of the sections changes
-  same_sections : (r : ℕ) (v v' : ReaderState) (answer : Answer) → There r v → ReaderKept plans.qsbr layout r v' number w.objects now.sections now.seen now.held →
-      ((mark : ℕ) (s : SectionId) → In now.sections s → s.reader ≡ r → shows mark v.word → shows mark v'.word) → v'.ordinal ≡ v.ordinal →
-      Kept plans layout slots laws (changed w (Read r (record { state = v'; answer = answer }))) now
-  same_sections r v v' answer t mine marks same =
-      kept_read r v v' answer now.seen now.sections now.held now.awaited now.asked_sections t
+  -- nothing of the sections changes but what they hold
+  same_sections : (r : ℕ) (v v' : ReaderState) (answer : Answer) (held' : SectionId → List ObjectId) → There r v → ReaderKept plans.qsbr layout r v' number w.objects now.sections now.seen held' →
+      ((x n : ℕ) (o : ObjectId) → x ≢ r → In (now.held (section_of x n)) o → In (held' (section_of x n)) o) → ((mark : ℕ) (s : SectionId) → In now.sections s → s.reader ≡ r → shows mark v.word → shows mark v'.word) → v'.ordinal ≡ v.ordinal →
+      Kept plans layout slots laws (changed w (Read r (record { state = v'; answer = answer }))) (record now { held = held' })
+  same_sections r v v' answer held' t mine holds marks same =
+      kept_read r v v' answer now.seen now.sections held' now.awaited now.asked_sections t
       (record {
         mine = mine;
         sees = λ x n _ h. h;
         opens = λ x n _ h. h;
         closes = λ x n _ h. h;
-        holds = λ x n o _ h. h;
+        holds = holds;
         awaits = λ a s h. h;
         marks = λ a s h o e. (o, λ mark. marks mark s o e);
       })
@@ -138,7 +146,7 @@ module _ {P : Type 0} (plans : Plans P) (layout : Layout) (slots : ℕ) (laws : 
   owes_copy : (r : ℕ) (v : ReaderState) → There r v → (plans.qsbr ≡ false → is_in v.word ≡ false) → OwesRead r (quietly (record v { copy = Some number }))
   owes_copy r v t idle = (
     tt,
-    same_sections r v (record v { copy = Some number }) Quiet t
+    same_sections r v (record v { copy = Some number }) Quiet now.held t
         (record {
           low = t.mine.low;
           opened = t.mine.opened;
@@ -147,7 +155,7 @@ module _ {P : Type 0} (plans : Plans P) (layout : Layout) (slots : ℕ) (laws : 
           copying = λ copy e. let same : number ≡ copy = some_is number copy e in (idle, λ _. omega (arith, same));
           marked = t.mine.marked;
         })
-        (λ mark s _ _ h. h) refl,
+        (λ x n o _ h. h) (λ mark s _ _ h. h) refl,
   )
 
   -- the word changes while its section stays open
@@ -155,7 +163,7 @@ module _ {P : Type 0} (plans : Plans P) (layout : Layout) (slots : ℕ) (laws : 
       OwesRead r (quietly (with_word v word))
   owes_word r v word t was is marks low = (
     tt,
-    same_sections r v (with_word v word) Quiet t
+    same_sections r v (with_word v word) Quiet now.held t
         (record {
           low = t.mine.low;
           opened = λ _. t.mine.opened was;
@@ -164,7 +172,7 @@ module _ {P : Type 0} (plans : Plans P) (layout : Layout) (slots : ℕ) (laws : 
           copying = λ copy e. let c = t.mine.copying copy e in ((λ f. absurd (true≢false (sym was ∙ c.0 f))), c.1);
           marked = low;
         })
-        (λ mark s _ _ h. marks mark h) refl,
+        (λ x n o _ h. h) (λ mark s _ _ h. marks mark h) refl,
   )
 
   module _ (r : ℕ) (v : ReaderState) (t : There r v) where
@@ -279,28 +287,19 @@ module _ {P : Type 0} (plans : Plans P) (layout : Layout) (slots : ℕ) (laws : 
   -- what was found is held
   kept_got : (r : ℕ) (v : ReaderState) (e : Event) (found : Option ObjectId) → There r v → is_in v.word ≡ true → ((o : ObjectId) → found ≡ Some o → stage_of w.objects o ≢ Fresh) →
       Kept plans layout slots laws (changed w (Read r (telling e (with_cursor v found)))) (got now (section_of r v.ordinal) found)
-  kept_got r v e None t is known = same_sections r v (with_cursor v None) (Events e None) t
+  kept_got r v e None t is known = same_sections r v (with_cursor v None) (Events e None) now.held t
       (record { low = t.mine.low; opened = t.mine.opened; opens = t.mine.opens; holds = t.mine.holds; copying = t.mine.copying; marked = t.mine.marked })
-      (λ mark s _ _ h. h) refl
-  kept_got r v e (Some f) t is known =
-      kept_read r v (with_cursor v (Some f)) (Events e None) now.seen now.sections (at_section s (f ∷ now.held s) now.held) now.awaited now.asked_sections t
+      (λ x n o _ h. h) (λ mark s _ _ h. h) refl
+  kept_got r v e (Some f) t is known = same_sections r v (with_cursor v (Some f)) (Events e None) (at_section s (f ∷ now.held s) now.held) t
       (record {
-        mine = record {
-          low = t.mine.low;
-          opened = t.mine.opened;
-          opens = t.mine.opens;
-          holds = λ o g. let same = some_is f o g in (is, subst (λ (os : List ObjectId). In os o) (sym (at_section_same s (f ∷ now.held s) now.held)) (inl same), known o g);
-          copying = t.mine.copying;
-          marked = t.mine.marked;
-        };
-        sees = λ x n _ h. h;
-        opens = λ x n _ h. h;
-        closes = λ x n _ h. h;
-        holds = λ x n o apart h. subst (λ (os : List ObjectId). In os o) (sym (at_section_other s (section_of x n) (f ∷ now.held s) now.held (λ g. apart (ap (λ (u : SectionId). u.reader) g)))) h;
-        awaits = λ a u h. h;
-        marks = λ a u h o g. (o, λ mark shown. shown);
+        low = t.mine.low;
+        opened = t.mine.opened;
+        opens = t.mine.opens;
+        holds = λ o g. let same = some_is f o g in (is, subst (λ (os : List ObjectId). In os o) (sym (at_section_same s (f ∷ now.held s) now.held)) (inl same), known o g);
+        copying = t.mine.copying;
+        marked = t.mine.marked;
       })
-      (log_longer w.log (e ∷ []) v.ordinal t.ordinal)
+      (λ x n o apart h. subst (λ (os : List ObjectId). In os o) (sym (at_section_other s (section_of x n) (f ∷ now.held s) now.held (λ g. apart (ap (λ (u : SectionId). u.reader) g)))) h) (λ mark u _ _ h. h) refl
     where
       s : SectionId
       s = section_of r v.ordinal
@@ -354,7 +353,7 @@ module _ {P : Type 0} (plans : Plans P) (layout : Layout) (slots : ℕ) (laws : 
   owes_touch : (r : ℕ) (v : ReaderState) (o : ObjectId) → There r v → is_in v.word ≡ true → v.cursor ≡ Some o → OwesRead r (telling (Touch (section_of r v.ordinal) o) v)
   owes_touch r v o t is from = (
     ((has_section_in now.sections (section_of r v.ordinal) (open_section r v t is), has_object_in (now.held (section_of r v.ordinal)) o (t.mine.holds o from).1), tt),
-    same_sections r v v (Events (Touch (section_of r v.ordinal) o) None) t t.mine (λ mark s _ _ h. h) refl,
+    same_sections r v v (Events (Touch (section_of r v.ordinal) o) None) now.held t t.mine (λ x n o _ h. h) (λ mark s _ _ h. h) refl,
   )
 
   -- the two flavours, by what the word functions give

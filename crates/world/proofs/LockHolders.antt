@@ -1,5 +1,5 @@
 -- Each lock is held by just who is inside.
-use Rattle.world.proofs.Cited.{◌≡◌, ◌≢◌, inl, inr, ℕ, ◌+◌, ◌%◌, ◌^◌, ◌<◌, ◌≤◌, true, List, length, slice_get, slice_set, Option, Some, None, refl, sym, ap, ◌∙◌, subst, arith, get_or-set_same, mod_below, none-some, same_Some, get_or_from_slice_get, slice_get_within, ObjectId, Layout, SyncCore, Tickets, WorkerCore, new_core, Config, Line, ObjectState, QueueAct, QueueState, Holder, RetireStep, UpdaterPlace, Idle, Syncs, Retires, UpdaterState, WorkerState, Change, Grace, Work, is_within_limits, new_worker, empty_queue_state, acted, held_by, changed_at, acted_at, held_at, Plans, BoardView, fresh_at, changed, idle, queue_at, changed_length}
+use Rattle.world.proofs.Cited.{◌≡◌, ◌≢◌, inl, inr, ℕ, ◌+◌, ◌%◌, ◌^◌, ◌<◌, ◌≤◌, true, List, length, slice_get, slice_set, Option, Some, None, refl, sym, ap, ◌∙◌, subst, get_or-set_same, none-some, same_Some, get_or_from_slice_get, slice_get_within, ObjectId, Layout, SyncCore, Tickets, WorkerCore, new_core, Config, Line, ObjectState, QueueAct, QueueState, Holder, RetireStep, UpdaterPlace, Idle, Syncs, Retires, UpdaterState, WorkerState, Change, Grace, Work, is_within_limits, new_worker, empty_queue_state, acted, held_by, changed_at, acted_at, held_at, Plans, BoardView, fresh_at, changed, idle, queue_at, changed_length}
 use Rattle.call_rcu_worker.specs.declared.sync.SyncCore.TheVariants as core
 use Rattle.call_rcu_worker.specs.declared.worker.WorkerCore.TheVariants as worker
 use Rattle.call_rcu_worker.specs.Worker.{synced as synced_to}
@@ -11,8 +11,8 @@ use Rattle.world.specs.Grace.{sync_place}
 use Rattle.world.specs.Lines.{world_after}
 use Rattle.world.specs.Locks.{IsInside, SyncsInside, WorksInside, IsInsideNow, IsRetiring, AreHeldInside}
 use Rattle.world.specs.Queues.{queue_of, retire_on}
-use Rattle.world.specs.Workers.{ask_for, act_for, worker_act}
-use Rattle.world.proofs.Callbacks.{RetireKept, at_queues}
+use Rattle.world.specs.Workers.{ask_for, worker_act}
+use Rattle.world.proofs.Callbacks.{RetireKept, own_queue, at_queues}
 use Rattle.world.proofs.Fence.{Laws, Holds}
 use Rattle.world.proofs.GraceRows.{LockMoves, Fits, fits_step}
 use Rattle.world.proofs.Logged.{get_replicate, Logged, logged, always}
@@ -46,12 +46,9 @@ holders_kept act keeps qs j i = by (slice_get qs j) refl
     by None is = ap (λ o. (queue_at (changed_at (acted act) qs j o) i).holder) is
     by (Some q) is = at_queues (λ n x. x.holder ≡ (queue_at qs n).holder) (acted act) qs j (slice_get_within qs j q is) (keeps (queue_at qs j)) (λ n other. refl) i
 
-sync_keeps : {P : Type 0} (seq : ℕ) (sync : SyncCore P) → KeepsHolder (act_for seq sync)
-sync_keeps seq core.Asks = λ q. refl
-sync_keeps seq _ = λ q. refl
-
 worker_keeps : {P : Type 0} (seq : ℕ) (core : WorkerCore P Unit) → KeepsHolder (worker_act seq core)
-worker_keeps seq (worker.Syncs sync tickets) = sync_keeps seq sync
+worker_keeps seq (worker.Syncs core.Asks tickets) = λ q. refl
+worker_keeps seq (worker.Syncs _ tickets) = λ q. refl
 worker_keeps seq _ = λ q. refl
 
 -- a grace period that is inside rests so
@@ -191,14 +188,11 @@ module _ {P : Type 0} (plans : Plans P) (layout : Layout) (slots : ℕ) (laws : 
   owned_item n x y core a at never keeps k =
       works plans w n x y at.was 0 w.grace.holder a (inl (refl, λ h. absurd (never (subst (λ (c : WorkerCore P Unit). WorksInside c) at.at h)))) keeps k
 
-  own_queue : (u : ℕ) → queue_of w u < length w.queues
-  own_queue u = let some = l.callbacks.sizes.some in mod_below u (length w.queues) (omega (arith, some))
-
   -- a step of a retirement that goes on holds the lock
   owned_going : (u : ℕ) (x y : UpdaterState P) (o : ObjectId) (step : RetireStep) (a : QueueAct) → WasAt plans w u x (Retires o step) → IsRetiring y.place → KeepsHolder a → IsOwned w →
       Owned (slice_set w.updaters u y) w.workers (acted_at w.queues (queue_of w u) a) w.grace.holder
   owned_going u x y o step a at retires keeps k =
-      queue_changed plans w u x y at.was (acted a) (queue_of w u) (own_queue u) (not_inside at (λ n. n))
+      queue_changed plans w u x y at.was (acted a) (queue_of w u) (own_queue u l.callbacks.sizes) (not_inside at (λ n. n))
       (λ v e. carried plans w u x y at.was (queue_of w u) (λ same h. retires) v (k.queues (queue_of w u) v (sym (keeps (queue_at w.queues (queue_of w u))) ∙ e)))
       (λ i apart same h. retires) k
 
@@ -207,12 +201,12 @@ module _ {P : Type 0} (plans : Plans P) (layout : Layout) (slots : ℕ) (laws : 
   owned_retire u x o due.Count at k = owned_going u x _ o due.Count act.Count at tt (λ q. refl) k
   owned_retire u x o due.Push at k = owned_going u x _ o due.Push (act.Push o) at tt (λ q. refl) k
   owned_retire u x o due.Free at k =
-      queue_changed plans w u x _ at.was (acted act.Free) (queue_of w u) (own_queue u) (not_inside at (λ n. n))
+      queue_changed plans w u x _ at.was (acted act.Free) (queue_of w u) (own_queue u l.callbacks.sizes) (not_inside at (λ n. n))
       (λ v e. absurd (none-some v e)) (λ i apart same h. absurd (apart (sym same))) k
 
   owned_hold : (u : ℕ) (x y : UpdaterState P) → WasAt plans w u x Idle → IsRetiring y.place → IsOwned w → Owned (slice_set w.updaters u y) w.workers (held_at w.queues (queue_of w u) u) w.grace.holder
   owned_hold u x y at retires k =
-      queue_changed plans w u x y at.was (held_by u) (queue_of w u) (own_queue u) (not_inside at (λ n. n))
+      queue_changed plans w u x y at.was (held_by u) (queue_of w u) (own_queue u l.callbacks.sizes) (not_inside at (λ n. n))
       (λ v e. subst (λ n. (n % length w.queues ≡ queue_of w u) × IsRetiring (updater_at (slice_set w.updaters u y) n).place) (same_Some u v e) (
         refl,
         subst (λ (z : UpdaterState P). IsRetiring z.place) (sym (get_or-set_same w.updaters u y idle (slice_get_within w.updaters u x at.was))) retires,

@@ -1,5 +1,5 @@
 -- A step that is made leaves another world: it tells an event, makes an object, or moves whoever made it.
-use Rattle.world.proofs.Cited.{◌≡◌, ◌≢◌, ◌+◌, ◌≤◌, ◌%◌, ◌^◌, ℕ, suc, true≢false, cond, nat_lt, Bool, true, false, List, [], ◌∷◌, ◌++◌, length, get_or, slice_get, slice_set, Option, Some, None, Result, Ok, Err, refl, sym, ap, ◌∙◌, subst, arith, IfOk, IfSome, lt-ltb, get_or_from_slice_get, ObjectId, Refusal, State, start, after_all, Layout, FinishesAfter, each_turn, turn_count, cookie_for, Ticket, Item, SyncCore, Told, Tickets, WorkerCore, Telling, new_core, step_of, asked_with, told_of, tickets_from, rest_of, after_take, item_done, Change, Bar, Config, Answer, Quiet, Line, Reader, Updater, Worker, ReaderVerb, UpdaterVerb, WorkerVerb, ObjectState, QueueState, ReaderState, ReaderStep, Barrier, BarrierStep, Note, Check, GraceState, Holder, Publishing, RetireStep, Started, UpdaterPlace, Idle, Publishes, Syncs, Retires, Bars, UpdaterState, WorkerState, is_within_limits, fresh_object, new_worker, empty_queue_state, Plans, BoardView, changed, told, idle, fresh_at}
+use Rattle.world.proofs.Cited.{◌≡◌, ◌≢◌, ◌+◌, ◌≤◌, ◌%◌, ◌^◌, ℕ, true≢false, cond, nat_lt, Bool, true, false, List, [], ◌∷◌, ◌++◌, length, get_or, slice_get, slice_set, Option, Some, None, Result, Ok, Err, refl, sym, ap, ◌∙◌, subst, arith, IfOk, IfSome, lt-ltb, get_or_from_slice_get, ObjectId, Refusal, State, start, after_all, Layout, FinishesAfter, each_turn, turn_count, cookie_for, Ticket, Item, SyncCore, Told, Tickets, WorkerCore, Telling, new_core, step_of, asked_with, told_of, tickets_from, rest_of, after_take, item_done, Change, Bar, Config, Answer, Quiet, Line, Reader, Updater, Worker, ReaderVerb, UpdaterVerb, WorkerVerb, ObjectState, QueueState, ReaderState, ReaderStep, Barrier, BarrierStep, Note, Check, GraceState, Holder, Publishing, RetireStep, Started, UpdaterPlace, Idle, Publishes, Syncs, Retires, Bars, UpdaterState, WorkerState, is_within_limits, fresh_object, new_worker, empty_queue_state, Plans, BoardView, changed, told, idle, fresh_at}
 use Rattle.rcu_model.specs.declared.event.Event.TheVariants as events
 use Rattle.gp_memb.specs.declared.plan.Turn.TheVariants as turns
 use Rattle.call_rcu_worker.specs.declared.sync.SyncCore.TheVariants as core
@@ -29,6 +29,7 @@ use Rattle.world.proofs.Logged.{Logged, logged}
 use Rattle.world.proofs.Moves.{longer, told_more, same_updater, same_worker, ReadMoves, read_moves, running_moves, Goes, goes, place_moves, core_moves}
 use Rattle.world.proofs.Standing.{first_stalls}
 use Rattle.world.proofs.State.{Asker, Syncing, Working, core_work, place_work, worker_work, work_of}
+use Rattle.world.proofs.WorkerSteps.{all_fresh, some_left}
 use Rattle.world.proofs.Tests.{Passes, not_false, Decides}
 
 -- the next step of a barrier is another one
@@ -59,15 +60,6 @@ takes _ r first count some = absurd (true≢false (sym r))
 counts : {P : Type 0} (core : WorkerCore P Unit) (tickets : Tickets) (ticket : Ticket) (item : Item Unit) → core ≡ worker.Ran tickets ticket item → (more : Bool) → cond more (worker.Pops (rest_of tickets)) worker.Idle ≢ core
 counts core tickets ticket item is true e = cc
 counts core tickets ticket item is false e = cc
-
--- where nothing is ready and nothing waits, some item is fresh
-some_fresh : {T : Type 0} (ready waiting fresh : List T) → ready ≡ [] → waiting ≡ [] → is_none_left (ready ++ waiting ++ fresh) ≡ false → 1 ≤ length fresh
-some_fresh {T} ready waiting fresh e f some =
-    by fresh (ap is_none_left (sym (ap (λ (r : List T). r ++ waiting ++ fresh) e ∙ ap (λ (r : List T). r ++ fresh) f)) ∙ some)
-  where
-    by : (xs : List T) → is_none_left xs ≡ false → 1 ≤ length xs
-    by [] none = absurd (true≢false none)
-    by (x ∷ xs) more = let n : length (x ∷ xs) ≡ suc (length xs) = refl in omega (arith, n)
 
 module _ {P : Type 0} (plans : Plans P) (layout : Layout) (slots : ℕ) (laws : Laws plans layout slots) (w : BoardView P) (l : Logged plans layout slots laws w)
     (finishes : (seq word : ℕ) → FinishesAfter plans.action plans.turn plans.taken each_turn (plans.made layout slots seq word) (turn_count plans.qsbr slots)) where
@@ -208,20 +200,20 @@ module _ {P : Type 0} (plans : Plans P) (layout : Layout) (slots : ℕ) (laws : 
     abbrev Kept : WorkerState P → Type 0
     Kept y = WorkAt mine now.asked now.awaited now.asked_sections y
 
-    all_fresh : (core : WorkerCore P Unit) → is_resting core ≡ true → Kept (record x { core = core }) → (mine.items.ready ≡ []) × (mine.items.waiting ≡ [])
-    all_fresh worker.Idle r h = (h.0, h.1)
-    all_fresh _ r h = absurd (true≢false (sym r))
+    rests_empty : (core : WorkerCore P Unit) → is_resting core ≡ true → Kept (record x { core = core }) → (mine.items.ready ≡ []) × (mine.items.waiting ≡ [])
+    rests_empty worker.Idle r h = (h.0, h.1)
+    rests_empty _ r h = absurd (true≢false (sym r))
 
     moves_take : is_resting x.core ≡ true → (q : Option QueueState) → slice_get w.queues k ≡ q → Passes (take_row w k x q).tests → Moves (take_row w k x q).effect
     moves_take rests None is p = tt
     moves_take rests (Some q) is p = λ same.
-        takes x.core rests (first_fresh q.items) (length q.items.fresh) (some_fresh q.items.ready q.items.waiting q.items.fresh none.0 none.1 p.1.0)
+        takes x.core rests (first_fresh q.items) (length q.items.fresh) (some_left q.items.fresh (ap is_none_left (sym (all_fresh q.items none.0 none.1)) ∙ p.1.0))
         (core_stays (with_core x (after_take x.core (first_fresh q.items) (length q.items.fresh))) _ same refl)
       where
         none : (q.items.ready ≡ []) × (q.items.waiting ≡ [])
         none =
             subst (λ (z : QueueState). (z.items.ready ≡ []) × (z.items.waiting ≡ [])) (get_or_from_slice_get w.queues k q empty_queue_state is)
-            (all_fresh x.core rests (subst (λ (y : WorkerState P). Kept y) (get_or_from_slice_get w.workers k x new_worker there) (l.callbacks.working k)))
+            (rests_empty x.core rests (subst (λ (y : WorkerState P). Kept y) (get_or_from_slice_get w.workers k x new_worker there) (l.callbacks.working k)))
 
     moves_run : (tickets : Tickets) (first : Option (Ticket × ObjectId)) → Moves (run_row w k x tickets first).effect
     moves_run tickets None = tt

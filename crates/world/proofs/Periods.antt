@@ -2,6 +2,10 @@
 use Rattle.world.proofs.Cited.{◌≡◌, ◌≢◌, ◌⊎◌, ◌+◌, ◌%◌, ◌^◌, ◌<◌, ◌≤◌, ⊎_elim, ℕ, leb, true, false, List, [], ◌∷◌, ◌++◌, Option, Some, None, refl, sym, ap, ◌∙◌, subst, arith, leb_tells, SectionId, In, empty_from, Layout, Load, StoreSeq, Finished, Shows, StoresInOrder, present_after, IsPresent, after_snoc, may_begin, never_finished, Plans}
 use Rattle.world.proofs.Fence.{Work, Rests, Waits, Checks, Starts, Runs, Frees, Pending, Holds, holding, pending_was, only_holder, RunsNone, Laws, Sets, set_cases, AsksKept, slot_turn, runs_no_group, Old, Running, GraceKept, Fenced, fenced_words, even_at, grace_set, asks_set, fenced_set, asks_asked, asks_answered, asks_later, fenced_asked}
 
+-- the two numbers that a plan stores
+pub first_second : (seq : ℕ) → StoreSeq (seq + 1) ≢ StoreSeq (seq + 2)
+first_second seq e = let same : seq + 1 ≡ seq + 2 = cc in omega (arith, same)
+
 module _ {P : Type 0} (plans : Plans P) (layout : Layout) (slots : ℕ) (laws : Laws plans layout slots) {A : Type 0} (decide : (x y : A) → (x ≡ y) ⊎ (x ≢ y)) where
   abbrev shows : ℕ → ℕ → Type 0
   shows mark word = Shows plans.qsbr layout mark word
@@ -46,7 +50,7 @@ module _ {P : Type 0} (plans : Plans P) (layout : Layout) (slots : ℕ) (laws : 
     awaited_open = opens;
   }
 
-  -- the lock is taken
+  -- who asks goes from one work to another with the same ask
   same_ask : (works : A → Work P) (x : A) (w v : Work P) → works x ≡ w → ((a c : ℕ) → Pending v a c → Pending w a c) → (a c : ℕ) → Pending v a c → Pending (works x) a c
   same_ask works x w v is less a c h = subst (λ (u : Work P). Pending u a c) (sym is) (less a c h)
 
@@ -61,17 +65,18 @@ module _ {P : Type 0} (plans : Plans P) (layout : Layout) (slots : ℕ) (laws : 
     awaited_open = k.awaited_open;
   }
 
+  -- the lock is taken
   pub part_locked : (works works' : A → Work P) (words : ℕ → ℕ) (asks seq number : ℕ) (asked answered : List ℕ) (awaited : ℕ → List SectionId) (sections : List SectionId) (x : A) (a c : ℕ) →
       works x ≡ Waits a c → Sets works works' x (Checks a c) → Part None works words asks seq number asked answered awaited sections → Part (Some x) works' words asks seq number asked answered awaited sections
   part_locked works works' words asks seq number asked answered awaited sections x a c is s k =
       part_set None (Some x) works works' words asks seq number asked answered answered awaited sections x (Waits a c) (Checks a c) is s (λ b d p e. cc) (λ b d p e. cc) (λ b d h. h) (λ b d e. cc) (λ _. refl) (λ y _ h. cc (k.grace_kept.held y h))
       (asks_set plans layout slots laws decide works works' asks seq asked answered x (Checks a c) s (same_ask works x (Waits a c) (Checks a c) is (λ b d h. h)) k.asks_kept) k
 
-  -- the check answers
   -- an ask whose cookie is reached awaits nobody
   pub reached_empty : (works : A → Work P) (words : ℕ → ℕ) (seq : ℕ) (awaited : ℕ → List SectionId) (x : A) (a c : ℕ) → Fenced plans layout slots laws decide works words seq awaited → Pending (works x) a c → c ≤ seq → awaited a ≡ []
   reached_empty works words seq awaited x a c f mine reached = empty_from (awaited a) (λ s h. let g = (f x a c s mine h).0 in omega (arith, g, reached))
 
+  -- the check answers
   pub part_answered : (holder : Option A) (works works' : A → Work P) (words : ℕ → ℕ) (asks seq number : ℕ) (asked answered : List ℕ) (awaited : ℕ → List SectionId) (sections : List SectionId) (x : A) (a c : ℕ) →
       works x ≡ Checks a c → Sets works works' x Frees → Part holder works words asks seq number asked answered awaited sections → Part holder works' words asks seq number asked (a ∷ answered) awaited sections
   part_answered holder works works' words asks seq number asked answered awaited sections x a c is s k =
@@ -222,9 +227,6 @@ module _ {P : Type 0} (plans : Plans P) (layout : Layout) (slots : ℕ) (laws : 
       order : StoresInOrder plans.action plans.taken seq p
       order = laws.all.keeps.order seq number p (laws.all.made seq number)
 
-      first_second : StoreSeq (seq + 1) ≡ StoreSeq (seq + 2) → ⊥
-      first_second e = let same : seq + 1 ≡ seq + 2 = cc in omega (arith, same)
-
       running : Running plans layout slots laws (seq + 1) number c taken
       running = record {
         from = seq;
@@ -237,7 +239,7 @@ module _ {P : Type 0} (plans : Plans P) (layout : Layout) (slots : ℕ) (laws : 
         is = refl;
         even = even;
         odd = refl;
-        goes_on = λ e. first_second (sym order.first ∙ (order.last [] 0 (λ f. cc (sym order.first ∙ f))).0 e);
+        goes_on = λ e. first_second seq (sym order.first ∙ (order.last [] 0 (λ f. cc (sym order.first ∙ f))).0 e);
         cookie = let q = k.asks_kept.pending x a c (subst (λ (u : Work P). Pending u a c) (sym is) (refl, refl)) in let l = k.grace_kept.starts x a c is in omega (arith, q.2, q.3, l, even);
         present = laws.all.keeps.presents p 0 ∙ ap (present_after (laws.present p)) order.first ∙ laws.all.keeps.begins seq number p (laws.all.made seq number) now;
         low = λ q. let l = k.grace_kept.number_low q in (l, omega (arith, l));

@@ -1,5 +1,5 @@
 -- What a change of one queue keeps of items, of other updaters and of barriers.
-use Rattle.world.proofs.Cited.{◌≡◌, ◌≢◌, ◌⊎◌, inl, inr, ℕ, ◌%◌, ◌<◌, ◌≤◌, Bool, List, length, slice_get, Some, sym, ap, ◌∙◌, subst, ObjectId, items_of, given_of, Mark, ObjectState, QueueState, BarrierStep, RetireStep, UpdaterPlace, Retires, Bars, marked_life, changed_at, chain_of, decide_number, life_of, life_else, stage_marked, chain_marked, Stands, InQueue, queue_at, changed_here, changed_else, changed_length, In}
+use Rattle.world.proofs.Cited.{◌≡◌, ◌≢◌, refl, ◌⊎◌, inl, inr, ℕ, ◌%◌, ◌<◌, ◌≤◌, Bool, List, length, slice_get, Some, sym, ap, ◌∙◌, subst, ObjectId, items_of, given_of, Mark, ObjectState, QueueState, BarrierStep, RetireStep, UpdaterPlace, Retires, Bars, marked_life, changed_at, chain_of, life_of, life_else, stage_marked, chain_marked, Stands, InQueue, queue_at, changed_here, changed_length, In}
 use Rattle.world_state.specs.declared.object.Life.TheVariants as life
 use Rattle.world_state.specs.declared.updater.RetireStep.TheVariants as due
 use Rattle.world.proofs.Callbacks.{Found, ItemsKept, DueKept, Retiring, RetireKept, Faces, IsAt, BarKept, at_queues}
@@ -61,30 +61,24 @@ module _ (qs : List QueueState) (j : ℕ) (f : QueueState → QueueState) (insid
   abbrev q : QueueState
   q = queue_at qs j
 
+  -- a retirement goes on where it does so in the queue that changes
+  retire_at : (os : List ObjectState) (count v : ℕ) (o : ObjectId) (d : RetireStep) → (Retiring os q count v o d → Retiring os (f q) count v o d) → Retiring os (queue_at qs (v % length qs)) count v o d → Retiring os (queue_at qs' (v % length qs')) count v o d
+  retire_at os count v o d goes h = subst (λ n. Retiring os (queue_at qs' (v % n)) count v o d) (sym (changed_length f qs j))
+      (at_queues (λ i r. v % length qs ≡ i → Retiring os r count v o d) f qs j inside (λ e. goes (subst (λ n. Retiring os (queue_at qs n) count v o d) e h)) (λ i apart e. subst (λ n. Retiring os (queue_at qs n) count v o d) e h) (v % length qs) refl)
+
   -- who does not hold the queue's lock is not concerned
   pub retire_apart : {P : Type 0} (os : List ObjectState) (count v : ℕ) (p : UpdaterPlace P) → (q.holder ≢ Some v) → RetireKept os qs count v p → RetireKept os qs' count v p
-  retire_apart os count v (Retires o d) other h = subst (λ n. Retiring os (queue_at qs' (v % n)) count v o d) (sym (changed_length f qs j)) (by (decide_number (v % length qs) j))
-    where
-      by : (v % length qs ≡ j) ⊎ (v % length qs ≢ j) → Retiring os (queue_at qs' (v % length qs)) count v o d
-      by (inl e) = absurd (other (subst (λ n. (queue_at qs n).holder ≡ Some v) e h.0))
-      by (inr n) = subst (λ (r : QueueState). Retiring os r count v o d) (sym (changed_else f qs j (v % length qs) n)) h
+  retire_apart os count v (Retires o d) other h = retire_at os count v o d (λ was. absurd (other was.0)) h
   retire_apart os count v _ other h = tt
 
   -- nor is anybody where lock, place and counts stay
   pub retire_through : {P : Type 0} (os : List ObjectState) (count v : ℕ) (p : UpdaterPlace P) → (f q).holder ≡ q.holder → (f q).items.reserved ≡ q.items.reserved → (f q).queued ≡ q.queued → given_of (f q).items ≡ given_of q.items →
       RetireKept os qs count v p → RetireKept os qs' count v p
-  retire_through os count v (Retires o d) lock place count_same given h = subst (λ n. Retiring os (queue_at qs' (v % n)) count v o d) (sym (changed_length f qs j)) (by (decide_number (v % length qs) j))
-    where
-      due_same : (reserved reserved' : Bool) (queued queued' given given' : ℕ) → reserved' ≡ reserved → queued' ≡ queued → given' ≡ given → DueKept os reserved queued given count v o d → DueKept os reserved' queued' given' count v o d
-      due_same reserved reserved' queued queued' given given' a b c g =
-          subst (λ r. DueKept os r queued' given' count v o d) (sym a) (subst (λ n. DueKept os reserved n given' count v o d) (sym b) (subst (λ n. DueKept os reserved queued n count v o d) (sym c) g))
-
-      by : (v % length qs ≡ j) ⊎ (v % length qs ≢ j) → Retiring os (queue_at qs' (v % length qs)) count v o d
-      by (inl e) =
-          let was : Retiring os q count v o d = subst (λ n. Retiring os (queue_at qs n) count v o d) e h in
-          subst (λ (r : QueueState). Retiring os r count v o d) (sym (ap (λ n. queue_at qs' n) e ∙ changed_here f qs j inside))
-          (lock ∙ was.0, due_same q.items.reserved (f q).items.reserved q.queued (f q).queued (given_of q.items) (given_of (f q).items) place count_same given was.1)
-      by (inr n) = subst (λ (r : QueueState). Retiring os r count v o d) (sym (changed_else f qs j (v % length qs) n)) h
+  retire_through os count v (Retires o d) lock place count_same given h = retire_at os count v o d (λ was. (
+    lock ∙ was.0,
+    subst (λ r. DueKept os r (f q).queued (given_of (f q).items) count v o d) (sym place)
+        (subst (λ n. DueKept os q.items.reserved n (given_of (f q).items) count v o d) (sym count_same) (subst (λ n. DueKept os q.items.reserved q.queued n count v o d) (sym given) was.1)),
+  )) h
   retire_through os count v _ lock place count_same given h = tt
 
   -- the updater that holds the lock

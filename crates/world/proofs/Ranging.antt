@@ -1,17 +1,14 @@
 -- The numbers of a kept world are small enough for its next step.
-use Rattle.world.proofs.Cited.{◌≡◌, ℕ, ◌+◌, ◌-◌, ◌%◌, ◌^◌, ◌<◌, ◌≤◌, Bool, true, false, List, [], ◌∷◌, length, slice_get, Option, Some, None, refl, sym, ap, ◌∙◌, subst, arith, get_or_from_slice_get, slice_get_within, slice_get-get_or, ObjectId, State, Layout, Action, LoadGroup, Item, Ticket, given_of, object_with, SyncCore, Plan, Tickets, WorkerCore, step_of, QueueState, ReaderState, Barrier, BarrierStep, Note, Check, UpdaterPlace, Bars, UpdaterState, WorkerState, new_worker, empty_queue_state, new_reader, Plans, BoardView, idle, queue_at}
+use Rattle.world.proofs.Cited.{◌≡◌, ℕ, ◌+◌, ◌-◌, ◌%◌, ◌^◌, ◌<◌, ◌≤◌, Bool, true, false, List, [], ◌∷◌, length, slice_get, Some, refl, sym, ap, ◌∙◌, subst, arith, get_or_from_slice_get, slice_get_within, slice_get-get_or, ObjectId, State, Layout, Item, Ticket, given_of, object_with, SyncCore, Tickets, WorkerCore, step_of, QueueState, ReaderState, Barrier, BarrierStep, Note, Check, UpdaterPlace, Bars, UpdaterState, WorkerState, new_worker, empty_queue_state, new_reader, Plans, BoardView, idle, queue_at}
 use Rattle.call_rcu_worker.specs.declared.sync.SyncCore.TheVariants as core
 use Rattle.call_rcu_worker.specs.declared.worker.WorkerCore.TheVariants as worker
 use Rattle.call_rcu_worker.specs.Worker.{next_of}
 use Rattle.world.specs.Workers.{first_in}
 use Rattle.world.specs.Shown.{CanStart, LoadsNoGroup, IsAtQueue, IsInRange}
 use Rattle.world.proofs.Callbacks.{Callbacks, IsAt, BarKept, WorkAt, WorkKept}
-use Rattle.world.proofs.Fence.{Work, Starts, Runs, Pending, Holds, Laws, even_at, runs_no_group}
+use Rattle.world.proofs.Fence.{Work, Starts, Pending, Holds, Laws, even_at, runs_no_group}
 use Rattle.world.proofs.Making.{may_make as made_within}
 use Rattle.world.proofs.State.{Asker, Syncing, Working, decide_asker, core_work, place_work, worker_work, work_of, holder_of, Kept}
-
-starts_runs : {P : Type 0} (ask cookie a c : ℕ) (p : P) → (let v : Work P = Starts ask cookie in v) ≡ Runs a c p → ⊥
-starts_runs ask cookie a c p e = cc
 
 module _ {P : Type 0} (plans : Plans P) (layout : Layout) (slots : ℕ) (laws : Laws plans layout slots) (w : BoardView P) (now : State) (k : Kept plans layout slots laws w now) (callbacks : Callbacks w now) where
   -- whoever makes a plan, finds numbers that a plan can begin with
@@ -20,7 +17,7 @@ module _ {P : Type 0} (plans : Plans P) (layout : Layout) (slots : ℕ) (laws : 
     where
       even : w.grace.seq % 2 ≡ 0
       even = even_at plans layout slots laws decide_asker (holder_of w.grace.holder) (work_of w.updaters w.workers) w.grace.seq w.grace.word x k.part.grace_kept
-          (subst (λ (v : Work P). Holds v) (sym is) tt) (λ a c p e. starts_runs ask cookie a c p (sym is ∙ e))
+          (subst (λ (v : Work P). Holds v) (sym is) tt) (λ a c p e. cc (sym is ∙ e))
 
       seq : w.grace.seq ≤ 2 ^ 62
       seq =
@@ -44,10 +41,7 @@ module _ {P : Type 0} (plans : Plans P) (layout : Layout) (slots : ℕ) (laws : 
 
   -- a plan that runs loads no group word
   no_group : (x : Asker) (ask : ℕ) (core : SyncCore P) → work_of w.updaters w.workers x ≡ core_work ask core → LoadsNoGroup (step_of plans.action core)
-  no_group x ask (core.Runs c p) is group e = runs_no_group plans layout slots laws w.grace.seq w.grace.word c p (k.part.grace_kept.running x ask c p is) group (action_is (plans.action p) (LoadGroup group) e)
-    where
-      action_is : (a b : Action) → Plan a ≡ Plan b → a ≡ b
-      action_is a b same = cc
+  no_group x ask (core.Runs c p) is group e = runs_no_group plans layout slots laws w.grace.seq w.grace.word c p (k.part.grace_kept.running x ask c p is) group (cc (e))
   no_group x ask _ is group e = cc
 
   -- the first ready item has the ticket that its worker waits for
@@ -69,11 +63,7 @@ module _ {P : Type 0} (plans : Plans P) (layout : Layout) (slots : ℕ) (laws : 
       by (i ∷ rest) e f = sym (ticket_is (sym (ap (object_with (mine.items.gone + 1)) e) ∙ f)) ∙ next_is
         where
           ticket_is : Some (record { 0 = mine.items.gone + 1 }, i.object) ≡ Some first → (let t : Ticket = record { 0 = mine.items.gone + 1 } in t) ≡ first.0
-          ticket_is same = ap (λ (o : Option (Ticket × ObjectId)). ticket_of o) same
-            where
-              ticket_of : Option (Ticket × ObjectId) → Ticket
-              ticket_of None = next_of tickets
-              ticket_of (Some found) = found.0
+          ticket_is same = let one : (record { 0 = mine.items.gone + 1 }, i.object) ≡ first = cc in ap (λ (found : Ticket × ObjectId). found.0) one
 
   pub in_range : IsInRange plans w
   in_range = record {

@@ -1,5 +1,5 @@
 -- The callbacks of each queue run in the order in which they were queued.
-use Rattle.world.proofs.Cited.{◌≡◌, ◌≢◌, ◌⊎◌, ⊎_elim, ℕ, inl, inr, ◌+◌, ◌%◌, ◌^◌, ◌<◌, ◌≤◌, true, List, [], ◌∷◌, ◌++◌, length, slice_get, Some, None, Ok, refl, sym, ap, ◌∙◌, subst, arith, cons_option, filter_map, mod_below, get_or_from_slice_get, slice_get-get_or, slice_get_within, Event, ObjectId, State, start, after, after_all, has_object, In, in_append, filter_has, runs_of, NoTurn, InTurn, quiet_turn, queued_turn, queued_elsewhere, run_turn, run_elsewhere, Item, Ticket, items_of, without_first, object_with, Layout, SyncCore, Tickets, WorkerCore, new_core, Config, Line, Life, QueueAct, QueueState, Holder, RetireStep, UpdaterPlace, Retires, UpdaterState, WorkerState, Change, is_within_limits, new_worker, empty_queue_state, item_of, acted, held_by, changed_at, acted_at, Plans, BoardView, fresh_at, changed, idle, told, decide_number, life_of, Items, Has, InQueue, has_stands, queue_at, changed_here, changed_else, items_sealed, items_advanced, items_pushed, queued_by, run_by, queued_into, run_from}
+use Rattle.world.proofs.Cited.{◌≡◌, ◌≢◌, ◌⊎◌, ⊎_elim, ℕ, inl, inr, ◌+◌, ◌%◌, ◌^◌, ◌<◌, ◌≤◌, true, List, [], ◌∷◌, ◌++◌, length, slice_get, Some, None, Ok, refl, sym, ap, ◌∙◌, subst, cons_option, filter_map, get_or_from_slice_get, slice_get-get_or, Event, ObjectId, State, start, after, after_all, has_object, In, in_append, filter_has, runs_of, NoTurn, InTurn, quiet_turn, queued_turn, queued_elsewhere, run_turn, run_elsewhere, Item, Ticket, items_of, without_first, object_with, Layout, SyncCore, Tickets, WorkerCore, new_core, Config, Line, Life, QueueAct, QueueState, Holder, RetireStep, UpdaterPlace, Retires, UpdaterState, WorkerState, Change, is_within_limits, empty_queue_state, item_of, acted, held_by, changed_at, acted_at, Plans, BoardView, fresh_at, changed, idle, told, decide_number, life_of, Items, Has, InQueue, has_stands, queue_at, changed_here, changed_else, items_sealed, items_advanced, items_pushed, queued_by, run_by, queued_into, run_from}
 use Rattle.rcu_model.specs.declared.event.Event.TheVariants as events
 use Rattle.call_rcu_worker.specs.declared.sync.SyncCore.TheVariants as core
 use Rattle.call_rcu_worker.specs.declared.worker.WorkerCore.TheVariants as worker
@@ -12,8 +12,9 @@ use Rattle.world.specs.declared.grace.GraceStep.{GraceStep}
 use Rattle.world.specs.Lines.{world_after}
 use Rattle.world.specs.Queues.{queue_of, retire_on}
 use Rattle.world.specs.RunOrder.{RunInOrder}
-use Rattle.world.specs.Workers.{ask_for, act_for, worker_act, first_in}
-use Rattle.world.proofs.Callbacks.{IsOther, LifeKept, RetireKept, WorkAt, WorkKept, at_queues}
+use Rattle.world.specs.Workers.{ask_for, worker_act, first_in}
+use Rattle.world.proofs.Found.{work_now}
+use Rattle.world.proofs.Callbacks.{own_queue, its_queue, IsOther, LifeKept, RetireKept, at_queues}
 use Rattle.world.proofs.Fence.{Laws}
 use Rattle.world.specs.Grace.{grace_row}
 use Rattle.world.proofs.GraceRows.{tells}
@@ -119,12 +120,9 @@ waits_same f qs j inside same = at_queues (λ q x. waiting_in x ≡ waiting_in (
 abbrev KeepsItems : QueueAct → Type 0
 KeepsItems act = (q : QueueState) → items_of (acted act q).items ≡ items_of q.items
 
-sync_keeps : {P : Type 0} (seq : ℕ) (sync : SyncCore P) → KeepsItems (act_for seq sync)
-sync_keeps seq core.Frees = λ q. items_advanced q.items seq
-sync_keeps seq _ = λ q. refl
-
 worker_keeps : {P : Type 0} (seq : ℕ) (core : WorkerCore P Unit) → KeepsItems (worker_act seq core)
-worker_keeps seq (worker.Syncs sync tickets) = sync_keeps seq sync
+worker_keeps seq (worker.Syncs core.Frees tickets) = λ q. items_advanced q.items seq
+worker_keeps seq (worker.Syncs _ tickets) = λ q. refl
 worker_keeps seq _ = λ q. refl
 
 abbrev IsInTurn : {P : Type 0} → BoardView P → Type 0
@@ -149,18 +147,6 @@ module _ {P : Type 0} (plans : Plans P) (layout : Layout) (slots : ℕ) (laws : 
   not_yet : (o : ObjectId) → (¬ In now.reclaimed o) → ¬ In (runs_of w.log) o
   not_yet o never h = never (all_reclaimed start w.log o (inr h))
 
-  own_queue : (u : ℕ) → queue_of w u < length w.queues
-  own_queue u = let some = l.callbacks.sizes.some in mod_below u (length w.queues) (omega (arith, some))
-
-  worker_queue : (k : ℕ) (x : WorkerState P) → slice_get w.workers k ≡ Some x → k < length w.queues
-  worker_queue k x was = subst (λ n. k < n) l.callbacks.sizes.manned (slice_get_within w.workers k x was)
-
-  its_work : (k : ℕ) (x : WorkerState P) (place : WorkerCore P Unit) → WorkedAt plans w k x place →
-      WorkKept (mine k).items.ready (mine k).items.waiting (mine k).items.cookie (mine k).items.gone (mine k).finished now.asked now.awaited now.asked_sections x.ask place
-  its_work k x place at =
-      subst (λ (p : WorkerCore P Unit). WorkKept (mine k).items.ready (mine k).items.waiting (mine k).items.cookie (mine k).items.gone (mine k).finished now.asked now.awaited now.asked_sections x.ask p) at.at
-      (subst (λ (y : WorkerState P). WorkAt (mine k) now.asked now.awaited now.asked_sections y) (get_or_from_slice_get w.workers k x new_worker at.was) (l.callbacks.working k))
-
   -- a step of a grace period asks, or answers, or tells nothing
   grace_quiet : (me : Holder) (ask : ℕ) (sync : SyncCore P) (step : GraceStep P) → grace_row plans w me ask sync ≡ Ok step → NoTurn (told step.answer)
   grace_quiet me ask sync step is = tells plans w me ask NoTurn none (record { runs = refl; queues = λ q. refl }) (record { runs = refl; queues = λ q. refl }) sync step is
@@ -170,12 +156,12 @@ module _ {P : Type 0} (plans : Plans P) (layout : Layout) (slots : ℕ) (laws : 
   leaves es no_turn = quiet w.log w.queues w.queues es no_turn (λ q. refl)
 
   turn_retire : (u : ℕ) (x : UpdaterState P) (o : ObjectId) (step : RetireStep) → WasAt plans w u x (Retires o step) → StaysInTurn w (retire_on w u x o step)
-  turn_retire u x o due.Mark at = quiet w.log w.queues _ _ (record { runs = refl; queues = λ q. refl }) (waits_same (acted act.Leave) w.queues (queue_of w u) (own_queue u) refl)
-  turn_retire u x o due.Count at = quiet w.log w.queues _ _ none (waits_same (acted act.Count) w.queues (queue_of w u) (own_queue u) refl)
-  turn_retire u x o due.Free at = quiet w.log w.queues _ _ none (waits_same (acted act.Free) w.queues (queue_of w u) (own_queue u) refl)
+  turn_retire u x o due.Mark at = quiet w.log w.queues _ _ (record { runs = refl; queues = λ q. refl }) (waits_same (acted act.Leave) w.queues (queue_of w u) (own_queue u l.callbacks.sizes) refl)
+  turn_retire u x o due.Count at = quiet w.log w.queues _ _ none (waits_same (acted act.Count) w.queues (queue_of w u) (own_queue u l.callbacks.sizes) refl)
+  turn_retire u x o due.Free at = quiet w.log w.queues _ _ none (waits_same (acted act.Free) w.queues (queue_of w u) (own_queue u l.callbacks.sizes) refl)
   turn_retire u x o due.Push at =
       queues_one w.log w.queues (acted_at w.queues j (act.Push o)) j o (not_yet o (subst (λ (y : Life). LifeKept y o now.retired now.queued now.reclaimed) retired (l.callbacks.items.lives o)).2)
-      (ap waiting_in (changed_here (acted (act.Push o)) w.queues j (own_queue u)) ∙ ap objects_of (items_pushed (mine j).items (item_of o)) ∙ objects_more (items_of (mine j).items) (item_of o))
+      (ap waiting_in (changed_here (acted (act.Push o)) w.queues j (own_queue u l.callbacks.sizes)) ∙ ap objects_of (items_pushed (mine j).items (item_of o)) ∙ objects_more (items_of (mine j).items) (item_of o))
       (λ q apart. ap waiting_in (changed_else (acted (act.Push o)) w.queues j q apart))
     where
       j : ℕ
@@ -191,7 +177,7 @@ module _ {P : Type 0} (plans : Plans P) (layout : Layout) (slots : ℕ) (laws : 
   turn_run k x tickets first at is = by (mine k).items.ready refl (sym (ap first_in (slice_get-get_or w.queues k empty_queue_state inside)) ∙ is)
     where
       inside : k < length w.queues
-      inside = worker_queue k x at.was
+      inside = its_queue k x l.callbacks.sizes at.was
 
       o : ObjectId
       o = first.1
@@ -230,7 +216,7 @@ module _ {P : Type 0} (plans : Plans P) (layout : Layout) (slots : ℕ) (laws : 
   turn_updates u x _ _ (ByReplace o y at is) = λ k. k
   turn_updates u x _ _ (BySync step at is goes on) = leaves _ (grace_quiet (holder.Updater u) (w.grace.asks + 1) new_core step is)
   turn_updates u x _ _ (ByTurn ask sync step at is goes on) = leaves _ (grace_quiet (holder.Updater u) ask sync step is)
-  turn_updates u x _ _ (ByHold o q at may is free) = λ k i. k i ∙ ap (λ os. run_from i w.log ++ os) (sym (waits_same (held_by u) w.queues (queue_of w u) (own_queue u) refl i))
+  turn_updates u x _ _ (ByHold o q at may is free) = λ k i. k i ∙ ap (λ os. run_from i w.log ++ os) (sym (waits_same (held_by u) w.queues (queue_of w u) (own_queue u l.callbacks.sizes) refl i))
   turn_updates u x _ _ (ByRetire o step at) = turn_retire u x o step at
   turn_updates u x _ _ _ = leaves _ (record { runs = refl; queues = λ q. refl })
 
@@ -240,12 +226,12 @@ module _ {P : Type 0} (plans : Plans P) (layout : Layout) (slots : ℕ) (laws : 
     reads = λ r v verb was step row. leaves (told step.answer) (others_run (told step.answer) (other_reads plans.qsbr w.layout w r v step row));
     updates = λ u x was. turn_updates u x;
     works = λ k x was. record {
-      takes = λ q at is free some. let rests = its_work k x worker.Idle at in
-          quiet w.log w.queues _ _ none (waits_same (acted act.Seal) w.queues k (worker_queue k x at.was) (items_sealed (mine k).items rests.0 rests.1));
+      takes = λ q at is free some. let rests = work_now plans layout slots laws w l k x worker.Idle at in
+          quiet w.log w.queues _ _ none (waits_same (acted act.Seal) w.queues k (its_queue k x l.callbacks.sizes at.was) (items_sealed (mine k).items rests.0 rests.1));
       works = λ sync tickets step at is goes on. quiet w.log w.queues _ _ (grace_quiet (holder.Worker k) (ask_for w x.ask sync) sync step is)
-          (waits_same (acted (worker_act step.grace.seq (synced_to step.core tickets))) w.queues k (worker_queue k x at.was) (worker_keeps step.grace.seq (synced_to step.core tickets) (mine k)));
+          (waits_same (acted (worker_act step.grace.seq (synced_to step.core tickets))) w.queues k (its_queue k x l.callbacks.sizes at.was) (worker_keeps step.grace.seq (synced_to step.core tickets) (mine k)));
       runs = λ tickets first at is. turn_run k x tickets first at is;
-      counts = λ tickets ticket item at. quiet w.log w.queues _ _ none (waits_same (acted act.Finish) w.queues k (worker_queue k x at.was) refl);
+      counts = λ tickets ticket item at. quiet w.log w.queues _ _ none (waits_same (acted act.Finish) w.queues k (its_queue k x l.callbacks.sizes at.was) refl);
     };
   }
 

@@ -1,5 +1,5 @@
 -- What the lines of workers keep, and that what they tell may come.
-use Rattle.world.proofs.Cited.{◌≡◌, ◌≢◌, ◌⊎◌, ⊎_elim, ℕ, true≢false, inl, inr, ◌+◌, ◌%◌, ◌<◌, ◌≤◌, ltb, false, List, [], ◌∷◌, ◌++◌, length, slice_get, slice_set, Option, Some, None, Result, Ok, refl, sym, ap, ◌∙◌, subst, arith, length-set, lt-ltb, ltb-true, ltb-false, cond-true, cond_both, none-some, same_Some, slice_get_within, slice_get-get_or, get_or_from_slice_get, Event, ObjectId, SectionId, Refusal, without_object, State, In, has_object_in, in_objects, without_object_has, decide, Layout, Item, Ticket, items_of, given_of, sealed, popped, without_first, object_with, SyncCore, Tickets, WorkerCore, new_core, after_take, tickets_from, rest_of, item_done, Quiet, Life, Mark, ObjectState, QueueAct, QueueState, WorkerState, Change, marked_life, new_worker, empty_queue_state, item_of, acted, changed_at, acted_at, Plans, BoardView, chain_of, life_of, life_within, life_marked, life_else, Items, Has, Stands, InQueue, queue_at, stands_above, changed_here, changed_else, changed_length, items_sealed}
+use Rattle.world.proofs.Cited.{nil_from_length, ◌≡◌, ◌≢◌, ◌⊎◌, ⊎_elim, ℕ, true≢false, inl, inr, ◌+◌, ◌%◌, ◌<◌, ◌≤◌, ltb, false, List, [], ◌∷◌, ◌++◌, length, slice_get, slice_set, Option, Some, None, Result, Ok, refl, sym, ap, ◌∙◌, subst, arith, length-set, lt-ltb, ltb-true, ltb-false, cond-true, cond_both, none-some, same_Some, slice_get_within, slice_get-get_or, get_or_from_slice_get, Event, ObjectId, SectionId, Refusal, without_object, State, In, has_object_in, in_objects, without_object_has, decide, Layout, Item, Ticket, items_of, given_of, sealed, popped, without_first, object_with, SyncCore, Tickets, WorkerCore, new_core, after_take, tickets_from, rest_of, item_done, Quiet, Life, Mark, ObjectState, QueueAct, QueueState, WorkerState, Change, marked_life, new_worker, empty_queue_state, item_of, acted, changed_at, acted_at, Plans, BoardView, chain_of, life_of, life_within, life_marked, life_else, Items, Has, Stands, InQueue, queue_at, stands_above, changed_here, changed_else, changed_length, items_sealed}
 use Rattle.rcu_model.specs.declared.event.Event.TheVariants as events
 use Rattle.callback_queue.specs.Queue.{Queue}
 use Rattle.call_rcu_worker.specs.declared.sync.SyncCore.TheVariants as core
@@ -12,11 +12,19 @@ use Rattle.world.specs.Workers.{first_fresh, with_core, is_none_left, first_in}
 use Rattle.world.proofs.Fence.{Work, Rests, Frees, Pending, Laws}
 use Rattle.world.proofs.State.{Asker, Working, core_work, worker_work, worker_at, work_of, updater_at, Kept, at_workers}
 use Rattle.world.proofs.KeptReaders.{longer}
-use Rattle.world.proofs.Callbacks.{Found, LifeKept, RetireKept, ItemsKept, QueueKept, BatchWaits, BatchKept, WorkKept, WorkAt, CallbacksKept, Callbacks, at_queues, queue_kept, sizes_over, numbers_over}
+use Rattle.world.proofs.Callbacks.{its_queue, Found, LifeKept, RetireKept, ItemsKept, QueueKept, BatchWaits, BatchKept, WorkKept, WorkAt, CallbacksKept, Callbacks, at_queues, queue_kept, sizes_over, numbers_over}
 use Rattle.world.proofs.QueueChanges.{found_over, retire_marked, retire_through, bar_over, stays, items_stay}
 use Rattle.world.proofs.Plain.{OwesAll}
 use Rattle.world.proofs.Beside.{kept_worker, beside}
 use Rattle.world.proofs.Retirements.{more_reclaimed, lives_marked}
+
+-- where nothing is ready and nothing waits, all items are fresh
+pub all_fresh : (i : Queue (Item Unit)) → i.ready ≡ [] → i.waiting ≡ [] → items_of i ≡ i.fresh
+all_fresh i none_ready none_waiting = ap (λ (l : Items). l ++ i.waiting ++ i.fresh) none_ready ∙ ap (λ (l : Items). l ++ i.fresh) none_waiting
+
+pub some_left : (l : Items) → is_none_left l ≡ false → 1 ≤ length l
+some_left [] e = absurd (true≢false e)
+some_left (i ∷ l) e = omega arith
 
 same_batch : (ready waiting : Items) (noted : Option ℕ) (asked : List ℕ) (awaited : ObjectId → List SectionId) (asked_sections : ℕ → List SectionId) (ask tickets c a d : ℕ) →
     BatchWaits ready waiting noted asked awaited asked_sections ask tickets c → (ask ≡ a) × (c ≡ d) → BatchWaits ready waiting noted asked awaited asked_sections a tickets d
@@ -185,7 +193,7 @@ module _ {P : Type 0} (plans : Plans P) (layout : Layout) (slots : ℕ) (laws : 
   is = get_or_from_slice_get w.workers n x new_worker at
 
   at_queue : slice_get queues n ≡ Some mine
-  at_queue = slice_get-get_or queues n empty_queue_state (subst (λ m. n < m) k.sizes.manned inside)
+  at_queue = slice_get-get_or queues n empty_queue_state (its_queue n x k.sizes at)
 
   pub my_work : WorkAt mine now.asked now.awaited now.asked_sections x
   my_work = subst (λ (y : WorkerState P). WorkAt mine now.asked now.awaited now.asked_sections y) is (k.working n)
@@ -211,9 +219,6 @@ module _ {P : Type 0} (plans : Plans P) (layout : Layout) (slots : ℕ) (laws : 
     empty : (mine.items.ready ≡ []) × (mine.items.waiting ≡ []) × (mine.finished ≡ mine.items.gone)
     empty = subst (λ (p : WorkerCore P Unit). WorkKept mine.items.ready mine.items.waiting mine.items.cookie mine.items.gone mine.finished now.asked now.awaited now.asked_sections x.ask p) idle my_work
 
-    all_fresh : items_of mine.items ≡ mine.items.fresh
-    all_fresh = ap (λ (l : Items). l ++ mine.items.waiting ++ mine.items.fresh) empty.0 ∙ ap (λ (l : Items). l ++ mine.items.fresh) empty.1
-
     abbrev all : Tickets
     all = tickets_from (first_fresh mine.items) (length mine.items.fresh)
 
@@ -227,7 +232,7 @@ module _ {P : Type 0} (plans : Plans P) (layout : Layout) (slots : ℕ) (laws : 
           at_rest = λ e. (k.queues n).at_rest e ∙ sym given;
           ready_free = (k.queues n).ready_free;
         })
-        refl refl refl ((empty.0, refl, some), empty.2, let count = ap (λ (l : Items). length l) all_fresh in omega (arith, count, some)))
+        refl refl refl ((empty.0, refl, some), empty.2, let count = ap (λ (l : Items). length l) (all_fresh mine.items empty.0 empty.1) in omega (arith, count, some)))
       where
         x' : WorkerState P
         x' = with_core x (worker.Syncs new_core all)
@@ -240,15 +245,11 @@ module _ {P : Type 0} (plans : Plans P) (layout : Layout) (slots : ℕ) (laws : 
 
     pub owes_take : (q : QueueState) → slice_get queues n ≡ Some q → is_none_left (items_of q.items) ≡ false → Owed (Ok (Works n (with_core x (after_take x.core (first_fresh q.items) (length q.items.fresh))) w.grace act.Seal None Quiet))
     owes_take q at_q left = subst Takes (get_or_from_slice_get queues n q empty_queue_state at_q) (λ e.
-        let some : 1 ≤ length mine.items.fresh = subst (λ (l : Items). 1 ≤ length l) all_fresh (some_left (items_of mine.items) e) in
+        let some : 1 ≤ length mine.items.fresh = subst (λ (l : Items). 1 ≤ length l) (all_fresh mine.items empty.0 empty.1) (some_left (items_of mine.items) e) in
         subst (λ (p : WorkerCore P Unit). Owed (Ok (Works n (with_core x p) w.grace act.Seal None Quiet))) (sym (after_take_is (first_fresh mine.items) (length mine.items.fresh) some)) (takes some)) left
       where
         Takes : QueueState → Type 0
         Takes r = is_none_left (items_of r.items) ≡ false → Owed (Ok (Works n (with_core x (after_take x.core (first_fresh r.items) (length r.items.fresh))) w.grace act.Seal None Quiet))
-
-        some_left : (l : Items) → is_none_left l ≡ false → 1 ≤ length l
-        some_left [] e = absurd (true≢false e)
-        some_left (i ∷ is') e = omega arith
 
   -- an item is run
   module _ (tickets : Tickets) (pops : x.core ≡ worker.Pops tickets) where
@@ -282,7 +283,7 @@ module _ {P : Type 0} (plans : Plans P) (layout : Layout) (slots : ℕ) (laws : 
         x' = with_core x (worker.Ran tickets (record { 0 = mine.items.gone + 1 }) (item_of o))
 
         here_q : n < length queues
-        here_q = subst (λ l. n < l) k.sizes.manned inside
+        here_q = its_queue n x k.sizes at
 
         queued : life_of w.objects o ≡ life.Queued
         queued = was_queued queues n i rest here_q ready w.objects now.retired now.queued now.reclaimed k.items
@@ -324,14 +325,10 @@ module _ {P : Type 0} (plans : Plans P) (layout : Layout) (slots : ℕ) (laws : 
       (λ e.
       let is' = batch.1 in
       let low = ltb-false 1 tickets.left e in
-      counts worker.Idle refl (none_left mine.items.ready (omega (arith, is', low)), batch.0, batch.2))
+      counts worker.Idle refl (nil_from_length mine.items.ready (omega (arith, is', low)), batch.0, batch.2))
     where
       batch : (mine.items.waiting ≡ []) × (tickets.left ≡ length mine.items.ready + 1) × (mine.finished + 1 ≡ mine.items.gone) × (tickets.last.0 + 1 ≡ mine.items.gone + tickets.left)
       batch = subst (λ (p : WorkerCore P Unit). WorkKept mine.items.ready mine.items.waiting mine.items.cookie mine.items.gone mine.finished now.asked now.awaited now.asked_sections x.ask p) ran my_work
-
-      none_left : (l : Items) → length l ≡ 0 → l ≡ []
-      none_left [] e = refl
-      none_left (i ∷ l) e = absurd (omega (arith, e))
 
       counts : (p : WorkerCore P Unit) → worker_work x.ask p ≡ Rests → WorkAt (acted act.Finish mine) now.asked now.awaited now.asked_sections (with_core x p) → Owed (Ok (Works n (with_core x p) w.grace act.Finish None Quiet))
       counts p rests works' = still (with_core x p) act.Finish (ap (worker_work x.ask) ran) rests

@@ -11,14 +11,14 @@ pub use Rattle.live_log.specs.declared.event.ObjectEvent.TheVariants.{Push, Repl
 pub use Rattle.rcu_hash.specs.Buckets.{HasRight, IsBucket}
 pub use Rattle.rcu_hash.specs.Copies.{AreApart, AreRanked, value_among, value_in_bucket}
 pub use Rattle.rcu_hash.specs.Directories.{AnswersLinked, AnswersThrough, bucket_in, buckets_in, directed_map, leads, value_through, LeadsTo, WalksThrough, first_in, leads_to}
-pub use Rattle.rcu_hash.specs.Freeing.{FreesAll, FreesAllBut, IsLeftZero, KeepsNone}
+pub use Rattle.rcu_hash.specs.Freeing.{FreesAll, FreesAllBut, GivesUp, IsLeftZero, KeepsNone, Looked, Undoes}
 pub use Rattle.rcu_hash.specs.Growing.{CopiesAll, CopiesKey, NotesAll, Grows, Exchanges, Founds}
 pub use Rattle.rcu_hash.specs.Leaving.{LeavesMap, Writes}
 pub use Rattle.rcu_hash.specs.Naming.{Directs, words_by}
 pub use Rattle.rcu_hash.specs.Publishing.{ChangesThrough, InsertsThrough, RemovesThrough, ReplacesThrough}
 pub use Rattle.rcu_hash.specs.Refusing.{During, HadIn, LackedThrough, RefusesInsertionThrough, RefusesRemovalThrough, RefusesReplacementThrough, FindsFree, FindsTaken, IsInUse, IsUnused}
 pub use Rattle.rcu_hash.specs.Tables.{IsAmong, bucket_of, are_apart}
-pub use Rattle.rcu_hash.specs.Tidying.{AreInRow, CountsLeft, IsRest, IsStopped, LeavesOnly, LinksStill, chains_in, numbers_of, objects_in, one_if, sum_of, AreFreed, FindsFrees, OnlyFrees, ClearsNote, Cuts, Clears, Does, Follow, HasWaited, IsLeft, IsRefused, Kind, Retires, Uses, WasReplaced, callbacks_by, callbacks_in, cleared_by, cleared_in, change_by, changes_in, IsLinked, IsTidied, WasCleared, RetiresObject, IsRecord, IsQueueAmong}
+pub use Rattle.rcu_hash.specs.Tidying.{AreInRow, CountsLeft, IsRest, IsStopped, LeavesOnly, LinksStill, chains_in, numbers_of, objects_in, one_if, sum_of, AreFreed, FindsFrees, OnlyFrees, ClearsNote, Cuts, Clears, Does, Follow, HasWaited, IsLeft, IsRefused, Kind, Retires, Uses, WasReplaced, callbacks_by, callbacks_in, cleared_by, cleared_in, change_by, changes_in, IsLinked, IsTidied, WasCleared, RetiresObject, IsRecord, IsQueueAmong, UsesUp}
 pub use Rattle.rcu_hash.specs.Writers.{AreFrom, Each, HasKeysIn, HasNote, HasSeen, IsAlone, IsRunIn, HasNoNote, IsEmpty, value_at, length_of, lengths_of, rights_of, IsOutside, SawBefore, HasNothing, AreKept, KeepLists}
 pub use Rattle.rcu_hash.specs.declared.directory.Naming.{Naming}
 pub use Rattle.rcu_list.proofs.Lemmas.{KnowsKeys, MayWriteIn, keys_walked, value_same, comes_above, keys_pushed, note_walked, same_own, stays_both, chain_known, keys_on, comes_in, pushed_map, rank_walked, by_result, by_second, found_there, if_err, walked_missing, cut_map, if_ok, keys_cut, may_remove, gives_back, keys_replaced, replaced_map, takes_over}

@@ -1,4 +1,4 @@
-use Rattle.rcu_hash.proofs.Cited.{Begins, AreApart, AreRanked, value_among, value_in_bucket, FreesAllBut, AreFrom, Each, Stays, Look, cell_in, ◌≡◌, ℕ, ◌≤◌, ◌++◌, List, map, vec_len, vec_capacity}
+use Rattle.rcu_hash.proofs.Cited.{AreApart, AreRanked, value_among, value_in_bucket, AreFrom, Each, cell_in, ◌≡◌, ℕ, ◌≤◌, map, vec_len, vec_capacity, Looked, []}
 use Rattle.rcu_hash.proofs.growth.copy_all.Given as goal
 
 -- the buckets up to this number are taken, and their keys copied
@@ -9,7 +9,5 @@ invariant-loop-number g l = record {
   named : Each (λ b. b.naming ≡ l.fn.array.naming) l.taken.items;
   copied : (key : ℕ) → value_among (map (λ c. (c.key, c.value)) l.copied.items) key ≡ value_in_bucket l.fn.array.naming.buckets (map (λ b. b.chain.seat.me.0) l.taken.items) key;
   apart : AreApart (map (λ c. (c.key, c.value)) l.copied.items) × AreRanked 0 (map (λ c. c.rank) l.copied.items);
-  heard : Begins (g.W.Caller.heard l.fn.caller) (g.W.Caller.heard l.caller);
-  looks : (found : List Look) × (g.W.Caller.looks l.caller ≡ found ++ g.W.Caller.looks l.fn.caller) × FreesAllBut g.B.Site.sizes (map (λ c. cell_in c.owned.seat.me.0.object) l.copied.items) found;
-  same : Stays g.W.Caller l.fn.caller l.caller × (g.W.Caller.loads l.caller ≡ g.W.Caller.loads l.fn.caller);
+  looked : Looked g.W.Caller g.B.Site.sizes (map (λ c. cell_in c.owned.seat.me.0.object) l.copied.items) [] l.fn.caller l.caller;
 }

@@ -1,4 +1,4 @@
-use Rattle.rcu_hash.proofs.Cited.{Log, chain_note, state_of, tabled, FreesAll, IsInUse, stays_both, Stays, IsAfter, hold_at, lent_chains, ChainRight, Look, Stored, Loaded, View, own_in, list_in, ◌≡◌, ℕ, [], ◌∷◌, ◌∙◌, ◌++◌, List, length, refl, sym, ap, subst, inl, inr, arith, ⊎_elim, nil_from_length, after_since, holds_none}
+use Rattle.rcu_hash.proofs.Cited.{Log, chain_note, state_of, tabled, Looked, IsInUse, stays_both, IsAfter, hold_at, lent_chains, ChainRight, Look, Stored, Loaded, View, own_in, list_in, ◌≡◌, ℕ, [], ◌∷◌, ◌∙◌, length, refl, sym, ap, subst, inl, inr, arith, ⊎_elim, nil_from_length, after_since, holds_none}
 use Rattle.rcu_hash.proofs.making.hold_empty.Given.{Over}
 use Rattle.rcu_hash.proofs.making.hold_empty.Goals.{After-hear, then-note-ne0-via-then-note-ne0, then-note-ne0-via-else-note-ne0+then-len-ne0}
 use Rattle.rcu_hash.proofs.making.hold_empty.Goals as goal
@@ -25,10 +25,19 @@ module _ (g : Over) (c : After-hear g) where
         ap (chain_note c.args.chain) h.heard ∙ subst (λ (k : ℕ). chain_note k v.seen ≡ (own_in v.chains).note) number one.owns.1.2,
       )
 
-  stays : Stays g.W.Caller c.args.caller.now c.hear.new.caller × (g.W.Caller.loads c.hear.new.caller ≡ g.W.Caller.loads c.args.caller.now) × ((found : List Look) × (g.W.Caller.looks c.hear.new.caller ≡ found ++ g.W.Caller.looks c.args.caller.now) × FreesAll g.B.Site.sizes found)
-  stays =
-      let w = g.W.Caller in let e = c.chain.ensures.same in let h = c.hear.ensures.same in let place = hold_at g.B.Site.sizes c.args.chain in
-      (stays_both w c.args.caller.now c.chain.new.caller c.hear.new.caller e.0 h.0.0, h.1 ∙ e.1, (Stored place 1 ∷ Loaded place 0 ∷ [], h.0.1 ∙ c.in-Ok.ensures.held.2, holds_none g.B.Site.sizes c.args.chain c.requires))
+  looked : (l : Looked g.W.Caller g.B.Site.sizes [] [] c.args.caller.now c.hear.new.caller) × (l.found ≡ Stored (hold_at g.B.Site.sizes c.args.chain) 1 ∷ Loaded (hold_at g.B.Site.sizes c.args.chain) 0 ∷ [])
+  looked =
+      let w = g.W.Caller in let e = c.chain.ensures.same in let h = c.hear.ensures.same in let place = hold_at g.B.Site.sizes c.args.chain in (
+        record {
+          stays = stays_both w c.args.caller.now c.chain.new.caller c.hear.new.caller e.0 h.0.0;
+          heard = after.after_heard;
+          loads = h.1 ∙ e.1;
+          found = Stored place 1 ∷ Loaded place 0 ∷ [];
+          looks = h.0.1 ∙ c.in-Ok.ensures.held.2;
+          freed = λ i. inr (holds_none g.B.Site.sizes c.args.chain c.requires i);
+        },
+        refl,
+      )
 
 -- its hold word told that it has a writer
 pub returns-in-Err : goal.returns-in-Err
@@ -41,7 +50,13 @@ returns-in-Err g c =
           why;
       unused = tt;
       heard = e.heard c.requires;
-      same = (e.same.0, e.same.1, ⊎_elim (λ none. ([], ap w.looks none.2, λ i. tt)) (λ busy. (Loaded place 1 ∷ [], busy.2, λ i. tt)) why);
+      same = (
+        ⊎_elim
+            (λ none. record { stays = e.same.0; heard = (e.heard c.requires).after_heard; loads = e.same.1; found = []; looks = ap w.looks none.2; freed = λ i. inr tt })
+            (λ busy. record { stays = e.same.0; heard = (e.heard c.requires).after_heard; loads = e.same.1; found = Loaded place 1 ∷ []; looks = busy.2; freed = λ i. inr tt })
+            why,
+        tt,
+      );
     }
 
 -- it links an object, or has a note
@@ -54,7 +69,7 @@ returns-then-note-ne0 g c =
       refused = (refl, record { chain = c.args.chain; one = refl; found = Stored place 1 ∷ Loaded place 0 ∷ []; looks = c.hear.ensures.same.0.1 ∙ c.in-Ok.ensures.held.2; why = inr (record { at = log; after = after g a; before = ([], refl); so = used }) });
       unused = tt;
       heard = after g a;
-      same = stays g a;
+      same = ((looked g a).0, tt);
     }
 
 pub returns : goal.returns
@@ -67,10 +82,9 @@ returns g c =
         (nothing, ap (λ (x : ChainRight). x.note) own ∙ note),
         ap (λ (v : View). lent_chains v.chains) l.1.1 ∙ (ap lent_chains h.chains.0 ∙ c.in-Ok.ensures.run.1),
         l.1.2.2,
-        h.same.0.1 ∙ c.in-Ok.ensures.held.2,
       );
       refused = tt;
       unused = (is.0 ∙ (ap (λ (x : ChainRight). x.objects) (sym own) ∙ nothing), is.1 ∙ note);
       heard = after g a;
-      same = stays g a;
+      same = looked g a;
     }

@@ -1,4 +1,4 @@
-use Rattle.rcu_hash.proofs.Cited.{run_of, tabled_maps, begins_trans, record_of, tabled, IsBucket, AreRanked, value_among, same_own, stays_both, went_both, value_in, ChainRight, Look, cell_in, list_in, ◌≡◌, ℕ, ◌+◌, ◌≤◌, [], ◌∷◌, ◌∙◌, ◌%◌, ◌==◌, if◌then◌else◌, ◌++◌, List, length, sym, ap, subst, arith, Option, Some, None, map, append_assoc, slice_index_or, IfSome, IfNone, vec_len, take_all, length-map, err_from_is_err_and, more_ranked, IsCopied, copied_skip, copied_more, found_more, falls_known, value_walked, got_at, got_words, bucket_walked, but_both}
+use Rattle.rcu_hash.proofs.Cited.{run_of, tabled_maps, record_of, tabled, IsBucket, AreRanked, value_among, same_own, went_both, value_in, ChainRight, list_in, ◌≡◌, ℕ, ◌+◌, ◌≤◌, [], ◌∷◌, ◌∙◌, ◌%◌, ◌==◌, if◌then◌else◌, ◌++◌, List, length, sym, ap, subst, arith, Option, Some, None, map, slice_index_or, IfSome, IfNone, vec_len, take_all, length-map, err_from_is_err_and, more_ranked, IsCopied, copied_skip, copied_more, falls_known, value_walked, got_at, got_words, bucket_walked, looked_on, gives_up_on}
 use Rattle.rcu_hash.proofs.bucket.Bucket.copy.Goals as goal
 use Rattle.rcu_hash.proofs.bucket.Bucket.copy.Goals.{then-words-buckets+in_ok-copy_key, else-words-buckets}
 
@@ -20,19 +20,10 @@ invariant_of-self-in-loop-index g c =
       fits = b.fits;
     }
 
-pub returns-in_err-copy_key-clause-looks : goal.returns-in_err-copy_key-clause-looks
-returns-in_err-copy_key-clause-looks g c =
-    let w = g.W.Caller in let i = c.loop-index.invariant in let e = c.in_err-copy_key.ensures in let p = err_from_is_err_and c.from_residual.result c.from_residual.ensures.1 in
-    let found = e.looks.0 in let before = i.looks.0 in (
-      found ++ before,
-      e.looks.1 ∙ (ap (λ (l : List Look). found ++ l) i.looks.1 ∙ sym (append_assoc found before (w.looks c.args.caller.now))),
-      but_both g.B.Site.sizes before found (map (λ x. cell_in x.owned.seat.me.0.object) c.loop-index.copied.items) (map (λ x. cell_in x.owned.seat.me.0.object) c.copy_key.new.copied.items) c.copy_key.ensures.cells i.looks.2 e.looks.2,
-      rw p.1 (λ is. found_more g.B.Site.sizes found before (e.looks.3 (sym p.2 ∙ is))),
-    )
-
-pub returns-in_err-copy_key-clause-heard : goal.returns-in_err-copy_key-clause-heard
-returns-in_err-copy_key-clause-heard g c =
-    let w = g.W.Caller in begins_trans (w.heard c.args.caller.now) (w.heard c.loop-index.caller) (w.heard c.copy_key.new.caller) c.loop-index.invariant.heard c.copy_key.ensures.heard
+pub returns-in_err-copy_key-clause-same : goal.returns-in_err-copy_key-clause-same
+returns-in_err-copy_key-clause-same g c =
+    let e = c.in_err-copy_key.ensures.same in let p = err_from_is_err_and c.from_residual.result c.from_residual.ensures.1 in
+    rw p.1 (gives_up_on c.copy_key.ensures.cells c.loop-index.invariant.looked (e.0, λ is. e.1 (sym p.2 ∙ is)))
 
 pub returns-in_err-copy_key-clause-walked : goal.returns-in_err-copy_key-clause-walked
 returns-in_err-copy_key-clause-walked g c =
@@ -53,28 +44,20 @@ loop-index-preserved g c =
     let key = ap (λ (l : List ℕ). slice_index_or l 0 0) words in
     elim c.if-words-buckets.branch [
       | then-words-buckets+in_ok-copy_key z ↦
-          let k = z.in_ok-copy_key.ensures in let w2 = z.copy_key.new.caller in let falls = falls_known q v (run_of q tabled v.seen three.seat.me.0.seen went.2.0 went.2.2) one.owns.1 in
+          let k = z.in_ok-copy_key.ensures in let falls = falls_known q v (run_of q tabled v.seen three.seat.me.0.seen went.2.0 went.2.2) one.owns.1 in
           rw z.caller-is (rw z.copied-is (record {
             copied = subst (IsCopied note os buckets number before (index + 1)) (sym (k.copied ∙ ap (λ (l : List ℕ). es ++ (slice_index_or l 0 0, slice_index_or l 1 0) ∷ []) words)) (copied_more note os buckets number before index es s.0 at i.copied falls (ap (λ (n : ℕ). n % buckets) (sym key) ∙ z.if-words-buckets.true));
             ranked = subst (AreRanked 0) (sym k.ranks) (subst (λ (n : ℕ). AreRanked 0 (ranks ++ n ∷ [])) many (more_ranked 0 ranks i.ranked));
-            heard = begins_trans (w.heard w0) (w.heard w1) (w.heard w2) i.heard k.heard;
             cells = λ n h. k.cells n (i.cells n h);
-            looks = (
-              k.looks.0 ++ i.looks.0,
-              k.looks.1 ∙ (ap (λ (l : List Look). k.looks.0 ++ l) i.looks.1 ∙ sym (append_assoc k.looks.0 i.looks.0 (w.looks w0))),
-              but_both g.B.Site.sizes i.looks.0 k.looks.0 (map (λ x. cell_in x.owned.seat.me.0.object) c.loop-index.copied.items) (map (λ x. cell_in x.owned.seat.me.0.object) z.copy_key.new.copied.items) k.cells i.looks.2 k.looks.2,
-            );
-            same = (stays_both w w0 w1 w2 i.same.0 k.same.0, k.same.1 ∙ i.same.1);
+            looked = looked_on z.copy_key.ensures.cells i.looked k.same.0;
             walked = (i.walked.0, (e.walked.0.0 ∙ i.walked.1.0, e.walked.0.1 ∙ i.walked.1.1), went, e.walked.2 ∙ i.walked.3, e.walked.3 ∙ i.walked.4);
           }))
       | else-words-buckets z ↦
           rw z.caller-is (rw z.copied-is (record {
             copied = copied_skip note os buckets number before index es s.0 at i.copied (λ here. z.if-words-buckets.false (ap (λ (n : ℕ). n % buckets) key ∙ here));
             ranked = i.ranked;
-            heard = i.heard;
             cells = i.cells;
-            looks = i.looks;
-            same = i.same;
+            looked = i.looked;
             walked = (i.walked.0, (e.walked.0.0 ∙ i.walked.1.0, e.walked.0.1 ∙ i.walked.1.1), went, e.walked.2 ∙ i.walked.3, e.walked.3 ∙ i.walked.4);
           }))
     ]
@@ -88,5 +71,5 @@ returns-clause-copied g c key =
     i.copied.0 key ∙ ap (λ (x : Option ℕ). if key % c.args.self.now.naming.buckets == c.args.number then x else value_among before key)
     (ap (λ l. value_in (record_of v.seen) l key) (take_all c.loop-index.index (list_in v) all) ∙ sym (value_walked q one.number one.seat.me two.seat.me i.walked.2 one.owns.1 one.owns.2 key))
 
-pub returns-clause-looks : goal.returns-clause-looks
-returns-clause-looks g c = let i = c.loop-index.invariant.looks in (i.0, i.1, i.2, tt)
+pub returns-clause-same : goal.returns-clause-same
+returns-clause-same g c = (c.loop-index.invariant.looked, tt)

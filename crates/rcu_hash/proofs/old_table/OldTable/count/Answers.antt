@@ -34,7 +34,7 @@ returns g c =
       counted = record {
         replaced = old;
         was = ∥∥₁_map rest (λ r. r.3);
-        waits = λ o is. during_earlier w q tabled w0 w2 w3 (IsUnretired o) e.heard.after_heard (during_since w q tabled w0 w1 w2 (IsUnretired o) a.same.0.0.0 a.heard (h.waits o is));
+        unretired = λ o is. during_earlier w q tabled w0 w2 w3 (IsUnretired o) e.heard.after_heard (during_since w q tabled w0 w1 w2 (IsUnretired o) a.same.0.0.0 a.heard (h.unretired o is));
         still = each_map (λ p. During w q tabled w0 w1 (LinksStill d p)) (λ p. During w q tabled w0 w3 (LinksStill d p)) (λ p. during_earlier w q tabled w0 w1 w3 (LinksStill d p) on) (lengths_of (rights_of vs))
             (subst (λ rs. Each (λ p. During w q tabled w0 w1 (LinksStill d p)) (lengths_of rs)) a.rights a.still);
         row = ∥∥₁_map rest (λ r. (r.2.0, row_is r.2.0 vs r.2.1));

@@ -1,10 +1,10 @@
-use Rattle.rcu_hash.proofs.Cited.{begins_trans, has_since, Log, Begins, tabled, CountsLeft, IsRest, IsStopped, chains_in, numbers_of, IsLeft, Uses, IsRecord, IsQueueAmong, Each, lengths_of, rights_of, Naming, OnlyHears, Ghosts, Sizes, object_in, Unlinked, none_some, ◌≡◌, ℕ, [], ◌∙◌, ◌<◌, Bool, List, refl, sym, ap, subst, inl, inr, Option, map, ⊎_elim, option_map, IfSome, rules, Gv, numbers_are, only_both, counts_since, stopped_on, waited_later, heard_on, uses_none, uses_both, frees_nothing, cleared_since, rest_less, rest_none, some_there, not_none, none_so, IfSome_then}
+use Rattle.rcu_hash.proofs.Cited.{begins_trans, has_since, Log, Begins, tabled, CountsLeft, IsRest, IsStopped, chains_in, numbers_of, IsLeft, IsRecord, IsQueueAmong, Each, lengths_of, rights_of, Naming, object_in, Unlinked, none_some, ◌≡◌, ℕ, ◌∙◌, ◌<◌, List, sym, ap, subst, inl, inr, Option, map, ⊎_elim, option_map, IfSome, rules, numbers_are, counts_since, stopped_on, waited_later, cleared_since, rest_less, rest_none, some_there, not_none, none_so, IfSome_then, UsesUp, uses_up_heard, uses_up_on, uses_up_hears}
 use Rattle.rcu_hash.proofs.table.RcuHash.retire_behind.Goals as goal
 
 pub retire_left-answer-requires : goal.retire_left-answer-requires
 retire_left-answer-requires g c =
     let w = g.W.Caller in let n = c.args.naming in let l = c.tell-left.result in let vs = map (λ x. x.seat.me.0) l.chains.items in
-    let was : c.take_left-place.result.1.naming ≡ n = search rules in let same : l.naming ≡ n = c.tell-left.ensures.left.0 ∙ was in (
+    let was : c.take-place.result.1.naming ≡ n = search rules in let same : l.naming ≡ n = c.tell-left.ensures.left.0 ∙ was in (
       search rules,
       (
         waited_later n.directory n.object (w.heard c.args.caller.now) (w.heard c.tell-left.new.caller) c.tell-left.ensures.heard.after_heard c.requires.waited,
@@ -18,7 +18,7 @@ retire_left-answer-requires g c =
 -- what is left is what was, but for what was cleared and retired since
 pub set_down-old-requires : goal.set_down-old-requires
 set_down-old-requires g c =
-    let l = c.tell-left.result in let n = c.args.naming in let was : c.take_left-place.result.1.naming ≡ n = search rules in let same : l.naming ≡ n = c.tell-left.ensures.left.0 ∙ was in (
+    let l = c.tell-left.result in let n = c.args.naming in let was : c.take-place.result.1.naming ≡ n = search rules in let same : l.naming ≡ n = c.tell-left.ensures.left.0 ∙ was in (
       search rules,
       (
         search rules,
@@ -30,9 +30,9 @@ set_down-old-requires g c =
           (
             search rules,
             λ log b run linked.
-                let q = g.P.GracePlan.QSBR in let w = g.W.Caller in let t = c.tell-left.ensures in let old = c.take_left-place.result.1 in let r = c.retire_left-answer.ensures in
+                let q = g.P.GracePlan.QSBR in let w = g.W.Caller in let t = c.tell-left.ensures in let old = c.take-place.result.1 in let r = c.retire_left-answer.ensures in
                 let w1 : Log = w.heard c.tell-left.new.caller in let w2 : Log = w.heard c.retire_left-answer.new.caller in
-                let goes : Begins w1 log = begins_trans w1 w2 log (heard_on q tabled g.B.Site.sizes n.directory (w.seen c.tell-left.new.caller) w1 w1 w2 r.uses.steps ([], refl) r.uses.follow) b in
+                let goes : Begins w1 log = begins_trans w1 w2 log (uses_up_heard r.uses) b in
                 let first = subst (λ ch. IsRest old.naming.directory old.naming.object (map (λ x. x.seat.me.0) ch.items) (option_map (λ u. object_in u.seat.me.0.object) old.unlinked) w1) (sym t.left.1) t.rest in
                 let second = subst (λ un. IsRest old.naming.directory old.naming.object (map (λ x. x.seat.me.0) l.chains.items) (option_map (λ u. object_in u.seat.me.0.object) un) w1) (sym t.left.2) first in
                 let known = subst (λ (m : Naming). IsRest m.directory m.object (map (λ x. x.seat.me.0) l.chains.items) (option_map (λ u. object_in u.seat.me.0.object) l.unlinked) w1) was second in
@@ -46,24 +46,18 @@ set_down-old-requires g c =
     )
 
 -- what it used, between what the caller heard of before it and after it
-used : {D W S : Type 0} (w : Ghosts W S) (code : D → Gv) (q : Bool) (sizes : Sizes) (d : ℕ) (w0 w1 w2 w4 : W) (jobs left : List D) → OnlyHears w w0 w1 → Begins (w.heard w0) (w.heard w1) → Uses q tabled sizes d (w.seen w1) w code w1 w2 jobs left (w.heard w1) (w.heard w2) → OnlyHears w w2 w4 → Begins (w.heard w2) (w.heard w4) → Uses q tabled sizes d (w.seen w0) w code w0 w4 jobs left (w.heard w0) (w.heard w4)
-used w code q sizes d w0 w1 w2 w4 jobs left before b uses after k =
-    let own = subst (λ (s : Log). Uses q tabled sizes d s w code w1 w2 jobs left (w.heard w1) (w.heard w2)) before.0.0.0 uses in
-    uses_both q tabled sizes d (w.seen w0) w code w0 w1 w4 jobs jobs left (w.heard w0) (w.heard w1) (w.heard w4) (uses_none q tabled sizes d (w.seen w0) w code w0 w1 jobs (w.heard w0) (w.heard w1) before.0.0 ([], before.0.1, frees_nothing sizes) b)
-    (uses_both q tabled sizes d (w.seen w0) w code w1 w2 w4 jobs left left (w.heard w1) (w.heard w2) (w.heard w4) own (uses_none q tabled sizes d (w.seen w0) w code w2 w4 left (w.heard w2) (w.heard w4) after.0.0 ([], after.0.1, frees_nothing sizes) k))
-
 pub returns-in-Ok-clause-uses : goal.returns-in-Ok-clause-uses
 returns-in-Ok-clause-uses g c =
-    let w = g.W.Caller in let w0 = c.args.caller.now in let w3 = c.set_down-old.new.caller in let jobs = c.args.jobs.items in
-    subst (λ (v : _). Uses g.P.GracePlan.QSBR tabled g.B.Site.sizes c.args.naming.directory (w.seen w0) w g.row.D.coded.code w0 w3 jobs v.items (w.heard w0) (w.heard w3)) (sym c.done.ensures.2)
-    (used w g.row.D.coded.code g.P.GracePlan.QSBR g.B.Site.sizes c.args.naming.directory w0 c.tell-left.new.caller c.retire_left-answer.new.caller w3 jobs c.retire_left-answer.new.jobs.items c.tell-left.ensures.same c.tell-left.ensures.heard.after_heard c.retire_left-answer.ensures.uses c.set_down-old.ensures.same c.set_down-old.ensures.heard.after_heard)
+    let w0 = c.args.caller.now in let w3 = c.set_down-old.new.caller in let jobs = c.args.jobs.items in let t = c.tell-left.ensures in let o = c.set_down-old.ensures in
+    subst (λ (v : _). UsesUp g.P.GracePlan.QSBR g.B.Site.sizes c.args.naming.directory g.W.Caller g.row.D.coded.code w0 w3 jobs v.items) (sym c.done.ensures.2)
+    (uses_up_on (uses_up_hears w0 c.tell-left.new.caller jobs t.same t.heard.after_heard) (uses_up_on c.retire_left-answer.ensures.uses (uses_up_hears c.retire_left-answer.new.caller w3 c.retire_left-answer.new.jobs.items o.same o.heard.after_heard)))
 
 pub returns-clause-uses : goal.returns-clause-uses
 returns-clause-uses g c =
-    let w = g.W.Caller in let w0 = c.args.caller.now in let w2 = c.retire_left-answer.new.caller in let w3 = c.set_down-old.new.caller in let w4 = c.count-old.new.caller in let jobs = c.args.jobs.items in
-    subst (λ (v : _). Uses g.P.GracePlan.QSBR tabled g.B.Site.sizes c.args.naming.directory (w.seen w0) w g.row.D.coded.code w0 w4 jobs v.items (w.heard w0) (w.heard w4)) (sym c.stopped.ensures.2)
-    (used w g.row.D.coded.code g.P.GracePlan.QSBR g.B.Site.sizes c.args.naming.directory w0 c.tell-left.new.caller w2 w4 jobs c.retire_left-answer.new.jobs.items c.tell-left.ensures.same c.tell-left.ensures.heard.after_heard c.retire_left-answer.ensures.uses
-    (only_both w w2 w3 w4 c.set_down-old.ensures.same c.count-old.ensures.same.0) (begins_trans (w.heard w2) (w.heard w3) (w.heard w4) c.set_down-old.ensures.heard.after_heard c.count-old.ensures.heard.after_heard))
+    let w0 = c.args.caller.now in let w3 = c.set_down-old.new.caller in let w4 = c.count-old.new.caller in let jobs = c.args.jobs.items in let left = c.retire_left-answer.new.jobs.items in let t = c.tell-left.ensures in let o = c.set_down-old.ensures in let k = c.count-old.ensures in
+    subst (λ (v : _). UsesUp g.P.GracePlan.QSBR g.B.Site.sizes c.args.naming.directory g.W.Caller g.row.D.coded.code w0 w4 jobs v.items) (sym c.stopped.ensures.2)
+    (uses_up_on (uses_up_hears w0 c.tell-left.new.caller jobs t.same t.heard.after_heard) (uses_up_on c.retire_left-answer.ensures.uses
+    (uses_up_on (uses_up_hears c.retire_left-answer.new.caller w3 left o.same o.heard.after_heard) (uses_up_hears w3 w4 left k.same.0 k.heard.after_heard))))
 
 pub returns-in-Ok-clause-done : goal.returns-in-Ok-clause-done
 returns-in-Ok-clause-done g c =
@@ -76,8 +70,8 @@ returns-clause-stopped g c =
     let w0 = c.args.caller.now in let w1 = c.tell-left.new.caller in let w2 = c.retire_left-answer.new.caller in let w3 = c.set_down-old.new.caller in let w4 = c.count-old.new.caller in
     let u = c.retire_left-answer.ensures.uses in let b = c.set_down-old.ensures.heard in
     let goes : Begins (w.heard w0) (w.heard w3) = begins_trans (w.heard w0) (w.heard w1) (w.heard w3) c.tell-left.ensures.heard.after_heard
-    (begins_trans (w.heard w1) (w.heard w2) (w.heard w3) (heard_on q tabled sizes n.directory (w.seen w1) (w.heard w1) (w.heard w1) (w.heard w2) u.steps ([], refl) u.follow) b.after_heard) in
-    let seen = c.set_down-old.ensures.same.0.0.0 ∙ (u.made.made.0 ∙ c.tell-left.ensures.same.0.0.0) in
+    (begins_trans (w.heard w1) (w.heard w2) (w.heard w3) (uses_up_heard u) b.after_heard) in
+    let seen = c.set_down-old.ensures.same.0.0.0 ∙ (u.uses.made.made.0 ∙ c.tell-left.ensures.same.0.0.0) in
     let on : Begins (w.heard w2) (w.heard w4) = begins_trans (w.heard w2) (w.heard w3) (w.heard w4) b.after_heard k.heard.after_heard in
     let chains = lengths_of (rights_of (map (λ x. x.seat.me.0) c.set_down-old.result.chains.items)) in
     let numbers : chains_in (map (λ x. x.seat.me.0) c.retire_left-answer.new.chains.items) ≡ numbers_of chains = sym (numbers_are (map (λ x. x.seat.me.0) c.set_down-old.result.chains.items) ∙ ap (λ v. chains_in (map (λ x. x.seat.me.0) v.items)) o.1) in

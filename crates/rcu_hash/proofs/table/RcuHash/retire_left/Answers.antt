@@ -1,4 +1,4 @@
-use Rattle.rcu_hash.proofs.Cited.{begins_trans, has_since, Log, Begins, Has, tabled, Object, Retire, Uses, WasCleared, if_ok, [], ◌<◌, refl, subst, inl, inr, arith, ⊎_elim, IsSome, vec_len, err_from_is_err_and, stopped_for, waited_later, finds_both, heard_on, uses_both, IfErr-weaker, objects_some, not_none}
+use Rattle.rcu_hash.proofs.Cited.{begins_trans, has_since, Has, Object, Retire, WasCleared, if_ok, ◌<◌, subst, inl, inr, arith, ⊎_elim, IsSome, vec_len, err_from_is_err_and, stopped_for, waited_later, IfErr-weaker, objects_some, not_none, uses_up_heard, uses_up_on}
 use Rattle.rcu_hash.proofs.table.RcuHash.retire_left.Goals as goal
 
 pub returns-in_err-retire_record-clause-uses : goal.returns-in_err-retire_record-clause-uses
@@ -7,7 +7,7 @@ returns-in_err-retire_record-clause-uses g c = c.retire_record.ensures.uses c.ar
 pub clear_all-requires-clause-waited : goal.clear_all-requires-clause-waited
 clear_all-requires-clause-waited g c =
     let w = g.W.Caller in let n = c.args.naming in
-    waited_later n.directory n.object (w.heard c.args.caller.now) (w.heard c.retire_record.new.caller) c.retire_record.ensures.heard c.requires.waited
+    waited_later n.directory n.object (w.heard c.args.caller.now) (w.heard c.retire_record.new.caller) (uses_up_heard (c.retire_record.ensures.uses n.directory c.requires.record)) c.requires.waited
 
 pub returns-in_err-retire_record-clause-cleared : goal.returns-in_err-retire_record-clause-cleared
 returns-in_err-retire_record-clause-cleared g c k h = inr h
@@ -25,20 +25,18 @@ returns-in_err-retire_record-clause-stopped g c =
 
 pub returns : goal.returns
 returns g c =
-    let q = g.P.GracePlan.QSBR in let w = g.W.Caller in let code = g.row.D.coded.code in let sizes = g.B.Site.sizes in let d = c.args.naming.directory in let w0 = c.args.caller.now in let w1 = c.retire_record.new.caller in let w2 = c.clear_all.new.caller in
-    let r = c.retire_record.ensures in let e = c.clear_all.ensures in let u = e.uses in let jobs = c.args.jobs.now.items in let mid = c.retire_record.new.jobs.items in let left = c.clear_all.new.jobs.items in let chains = c.clear_all.new.chains in
-    let on : Begins (w.heard w1) (w.heard w2) = heard_on q tabled sizes d (w.seen w1) (w.heard w1) (w.heard w1) (w.heard w2) u.steps ([], refl) u.follow in record {
+    let w = g.W.Caller in let w0 = c.args.caller.now in let w1 = c.retire_record.new.caller in let w2 = c.clear_all.new.caller in
+    let r = c.retire_record.ensures in let e = c.clear_all.ensures in let first = r.uses c.args.naming.directory c.requires.record in let left = c.clear_all.new.jobs.items in let chains = c.clear_all.new.chains in
+    let on = uses_up_heard e.uses in record {
       kept = r.kept;
       told = λ o is. ⊎_elim (λ (h : Has (Object (Retire o)) (w.heard w1)). inl (has_since (Object (Retire o)) (w.heard w1) (w.heard w2) on h)) (λ kept. inr kept) (r.told o is);
       cleared = λ k h. ⊎_elim
-          (λ (z : WasCleared (w.heard w1) k (w.heard w2)). inl (record { at = z.at; after = begins_trans (w.heard w0) (w.heard w1) z.at r.heard z.after; before = z.before }))
+          (λ (z : WasCleared (w.heard w1) k (w.heard w2)). inl (record { at = z.at; after = begins_trans (w.heard w0) (w.heard w1) z.at (uses_up_heard first) z.after; before = z.before }))
           (λ kept. inr kept)
           (e.cleared k h);
       done = if_ok c.clear_all.result _ _ _ (λ x none z. (none, c.in_ok-retire_record.ensures.retired)) e.emptied e.emptied;
       chains = (IfErr-weaker c.clear_all.result _ (λ x. 0 < vec_len chains) (λ x k. let some = objects_some chains.items (λ y. y.seat.me.0) k.0 in omega (arith, some, chains.ok)) e.stopped, e.chains);
-      uses = uses_both q tabled sizes d (w.seen w0) w code w0 w1 w2 jobs mid left (w.heard w0) (w.heard w1) (w.heard w2) (r.uses d c.requires.record)
-          (subst (λ (seen : Log). Uses q tabled sizes d seen w code w1 w2 mid left (w.heard w1) (w.heard w2)) r.changes.0 u);
+      uses = uses_up_on first e.uses;
       row = e.row;
       stopped = IfErr-weaker c.clear_all.result _ _ (λ x k. (inr k.0, stopped_for w w2 _ _ left x (λ z one. inr one) k.1)) e.stopped;
-      same = finds_both w w0 w1 w2 r.same e.same;
     }

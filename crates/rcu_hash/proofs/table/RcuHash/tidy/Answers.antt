@@ -1,4 +1,4 @@
-use Rattle.rcu_hash.proofs.Cited.{begins_trans, Log, Begins, tabled, CountsLeft, IsStopped, numbers_of, Uses, IsTidied, IsQueueAmong, stays_both, LoadedOnce, Synchronized, FindsNothing, Look, ◌≡◌, ℕ, [], ◌∷◌, ◌∙◌, ◌<◌, ◌++◌, List, refl, sym, ap, subst, inl, inr, append_assoc, IfNone, append-nil, counts_since, heard_on, uses_none, uses_both, frees_nothing, ended_since, loaded_since, IfSome_then}
+use Rattle.rcu_hash.proofs.Cited.{begins_trans, Log, Begins, tabled, CountsLeft, IsStopped, numbers_of, Uses, IsTidied, IsQueueAmong, stays_both, LoadedOnce, Synchronized, FindsNothing, Look, ◌≡◌, ℕ, [], ◌∷◌, ◌∙◌, ◌<◌, ◌++◌, List, refl, sym, ap, subst, inl, inr, append_assoc, IfNone, append-nil, counts_since, uses_none, uses_both, frees_nothing, ended_since, loaded_since, IfSome_then, uses_up_heard}
 use Rattle.rcu_hash.proofs.table.RcuHash.tidy.Goals as goal
 
 pub returns-in_default-clause-heard : goal.returns-in_default-clause-heard
@@ -79,21 +79,21 @@ returns-then-left-gt0-clause-heard g c =
 pub returns-in-Ok : goal.returns-in-Ok
 returns-in-Ok g c =
     let q = g.P.GracePlan.QSBR in let w = g.W.Caller in let code = g.row.D.coded.code in let sizes = g.B.Site.sizes in let w0 = c.args.caller.now in let w1 = c.loop.caller in let w2 = c.find_left.new.caller in let w3 = c.synchronize.new.caller in let w4 = c.retire_behind.new.caller in
-    let i = c.loop.invariant in let h = c.find_left.ensures in let k = c.in_default-synchronize.ensures.caller in let s = c.in_default-synchronize.ensures.ended in let end = c.in-Ok.end in let e = c.in-Ok.ensures in let r = c.retire_behind.ensures.same in
+    let i = c.loop.invariant in let h = c.find_left.ensures in let k = c.in_default-synchronize.ensures.caller in let s = c.in_default-synchronize.ensures.ended in let end = c.in-Ok.end in let e = c.in-Ok.ensures in
     let d = c.args.self.now.directory in let its = c.in-Some-find_left.ensures.some.0 in let jobs = c.args.jobs.items in let left = end.jobs.items in let found = k.1 ∙ (h.same.0.1 ∙ i.same.1) in
     let stays = stays_both w w0 w1 w3 i.same.0 (stays_both w w1 w2 w3 h.same.0.0 k.0) in
     let seen : Begins (w.seen w0) (w.heard w2) = subst (λ (l : Log). Begins l (w.heard w2)) i.same.0.0 h.heard.after_seen in
     let heard : Begins (w.heard w0) (w.heard w2) = begins_trans (w.heard w0) (w.heard w1) (w.heard w2) i.heard h.heard.after_heard in
     let goes : Begins (w.heard w2) (w.heard w3) = begins_trans (w.heard w2) s.asked (w.heard w3) s.after.after_heard s.later in
-    let on = heard_on q tabled sizes c.in-Some-find_left.naming.directory (w.seen w3) (w.heard w2) (w.heard w3) (w.heard w4) e.uses.steps goes e.uses.follow in
+    let on = begins_trans (w.heard w2) (w.heard w3) (w.heard w4) goes (uses_up_heard e.uses) in
     let waited = ended_since q tabled (w.seen w0) (w.heard w0) (w.seen w2) (w.heard w2) (w.loads w0) (w.loads w2) i.waits.0 (w.loads w3) (w.heard w3) seen heard (h.same.1 ∙ i.waits.1) s in
-    let own = subst (λ (n : ℕ). Uses q tabled sizes n (w.seen w3) w code w3 w4 c.loop.jobs.items left (w.heard w3) (w.heard w4)) its e.uses in
+    let own = subst (λ (n : ℕ). Uses q tabled sizes n (w.seen w3) w code w3 w4 c.loop.jobs.items left (w.heard w3) (w.heard w4)) its e.uses.uses in
     let rest = subst (λ (v : _). Uses q tabled sizes d (w.seen w3) w code w3 w4 v.items left (w.heard w3) (w.heard w4)) i.jobs own in record {
       jobs = (e.jobs.0, ap (λ (v : _). v.items) (sym i.jobs) ∙ e.jobs.1, e.jobs.2);
       tidied = inl (record {
         earlier = i.waits.0;
         waited = w.heard w3;
-        ended = subst (λ (l : List Log). Synchronized q tabled (w.seen w0) (w.heard w0) (i.waits.0 ++ w.loads w0) l (w.heard w3)) (sym r.0) waited;
+        ended = subst (λ (l : List Log). Synchronized q tabled (w.seen w0) (w.heard w0) (i.waits.0 ++ w.loads w0) l (w.heard w3)) (sym e.uses.loads) waited;
         uses = uses_both q tabled sizes d (w.seen w0) w code w0 w3 w4 jobs jobs left (w.heard w3) (w.heard w3) (w.heard w4)
             (uses_none q tabled sizes d (w.seen w0) w code w0 w3 jobs (w.heard w3) (w.heard w3) stays ([], found, frees_nothing sizes) ([], refl))
             (subst (λ (l : Log). Uses q tabled sizes d l w code w3 w4 jobs left (w.heard w3) (w.heard w4)) stays.0 rest);
@@ -108,5 +108,5 @@ returns-in-Ok g c =
         ),
       ));
       heard = record { after_seen = begins_trans (w.seen w0) (w.heard w2) (w.heard w4) seen on; after_heard = begins_trans (w.heard w0) (w.heard w2) (w.heard w4) heard on; run = e.heard };
-      same = (r.1.0, r.1.1 ∙ ap (λ (l : List Look). r.1.0 ++ l) found);
+      same = (e.uses.uses.found, e.uses.uses.looks ∙ ap (λ (l : List Look). e.uses.uses.found ++ l) found);
     }
