@@ -1,13 +1,13 @@
 -- Logs up to an event, and what a verdict says of the whole log.
-use Rattle.rcu_judge.proofs.Cited.{◌≡◌, ◌≢◌, ◌↔◌, ℕ, ◌+◌, Bool, true, false, List, [], ◌∷◌, ◌++◌, length, refl, sym, ap, ◌∙◌, subst, true≢false, append_assoc, length-append, Event, State, start, IsAllowed, AreAllowed, IsRun, after, after_all, state_after, allowed_append, after_append}
+use Rattle.rcu_judge.proofs.Cited.{◌≡◌, ◌≢◌, ◌↔◌, ℕ, ◌+◌, Bool, true, List, [], ◌∷◌, ◌++◌, refl, sym, ap, ◌∙◌, subst, append_assoc, length-append, Event, State, start, IsAllowed, AreAllowed, IsRun, after, after_all, state_after, allowed_append, after_append}
 use Rattle.rcu_judge.specs.declared.checker.Checker.{Checker}
 use Rattle.rcu_judge.specs.declared.judge.Judge.{Judge}
 use Rattle.rcu_judge.specs.declared.verdict.Rule.{Rule}
 use Rattle.rcu_judge.specs.declared.verdict.Verdict.{Verdict}
 use Rattle.rcu_judge.specs.declared.verdict.Verdict.TheVariants.{Yes, No}
-use Rattle.rcu_judge.specs.Verdict.{IsFirstBreak, Judges, rule_of}
+use Rattle.rcu_judge.specs.Verdict.{IsFirstBreak, Judges}
 use Rattle.rcu_judge.specs.Objects.{IsReached}
-use Rattle.rcu_judge.specs.Checker.{Follows, Goes, Answers, Keeps}
+use Rattle.rcu_judge.specs.Checker.{Follows, Goes, Answers}
 use Rattle.rcu_judge.specs.Judge.{HasTaken}
 
 -- a run begins with a run, and its next event is allowed
@@ -31,18 +31,6 @@ module _ (old new : Checker) (before : List Event) (e : Event) (fine : Bool) (an
 
   pub known_on : fine ≡ true → Follows new (state_after (before ++ e ∷ []))
   known_on fine_now = subst (Follows new) (sym (after_append start before (e ∷ []))) (goes.follows fine_now)
-
-  pub is_break : (log later : List Event) (at : ℕ) (rule : Rule) → log ≡ before ++ e ∷ later → at ≡ length before + 1 → rule ≡ rule_of e → fine ≡ false → IsFirstBreak log at rule
-  is_break log later at rule split counted named wrong = record {
-    before = before;
-    event = e;
-    later = later;
-    split = split;
-    counted = counted;
-    run = run;
-    breaks = λ a. true≢false (sym (goes.allowed.1 a) ∙ wrong);
-    named = named;
-  }
 
 -- an event more, after one that breaks its rule
 pub breaks_on : (log : List Event) (e : Event) (at : ℕ) (rule : Rule) → IsFirstBreak log at rule → IsFirstBreak (log ++ e ∷ []) at rule
@@ -79,20 +67,6 @@ module _ (judge : Judge) (new : Checker) (e : Event) (fine : Bool) (answers : An
     counted = λ y. counted ∙ ap (λ n. n + 1) (t.counted y) ∙ sym (length-append log (e ∷ []));
     known = λ y. known_on judge.checker new log e fine answers run (t.known yes) fine_now;
   }
-
-  pub taken_wrong : fine ≡ false → (at : ℕ) → at ≡ judge.taken + 1 → (rule : Rule) → rule ≡ rule_of e → (taken : ℕ) → HasTaken (record { checker = new; taken = taken; verdict = No at rule }) (log ++ e ∷ [])
-  taken_wrong wrong at counted rule named taken = record {
-    judged = is_break judge.checker new log e fine answers run (t.known yes) (log ++ e ∷ []) [] at rule refl (counted ∙ ap (λ n. n + 1) (t.counted yes)) named wrong;
-    counted = λ y. absurd (no_yes y);
-    known = λ y. absurd (no_yes y);
-  }
-    where
-      no_yes : No at rule ≡ Yes → ⊥
-      no_yes h = cc
-
--- nothing was taken that is not kept
-pub taken_still : (judge : Judge) (new : Checker) → Keeps judge.checker new → (log : List Event) → HasTaken judge log → HasTaken (record judge { checker = new }) log
-taken_still judge new keeps log t = record { judged = t.judged; counted = t.counted; known = λ y. keeps (state_after log) (t.known y) }
 
 -- a verdict is `Yes` for a run alone
 pub yes_exactly : (verdict : Verdict) (log : List Event) → Judges verdict log → (verdict ≡ Yes) ↔ IsRun log

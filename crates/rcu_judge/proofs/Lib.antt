@@ -1,4 +1,6 @@
 mod Cited
+pub mod Members
+pub mod Parts
 pub mod Rosters
 pub mod Places
 pub mod SectionLemmas

@@ -1,73 +1,23 @@
 -- What a store into a chain keeps of what is known of objects.
-use Rattle.rcu_judge.proofs.Cited.{◌≡◌, ◌≢◌, ◌⊎◌, inl, inr, ℕ, ◌==◌, Bool, true, false, ◌&&◌, List, is_some, Option, Some, None, refl, sym, ap, ◌∙◌, subst, true≢false, eqb_tells, option_or, ObjectId, has_object, HasObject, In, in_objects, has_object_in, at_number_same, at_number_other, Linking, IsPlace, follows, follows_has, none_some, decide_place, Spliced, ChainKept, Written, chain_framed, chain_spliced}
+use Rattle.rcu_judge.proofs.Cited.{option_map, and_parts, eqb-true, eq-eqb, ne_eqb, cases_eq, cond, arith, ◌≡◌, ◌≢◌, ◌⊎◌, inl, inr, ℕ, ◌==◌, Bool, true, false, List, is_some, Option, Some, None, refl, sym, ap, ◌∙◌, subst, true≢false, option_or, ObjectId, has_object, HasObject, In, in_objects, has_object_in, at_number_same, at_number_other, Linking, IsPlace, follows, follows_has, none_some, decide_place, Spliced, ChainKept, Written, chain_framed, chain_spliced}
 use Rattle.rcu_judge.specs.declared.object.Stage.{Stage}
-use Rattle.rcu_judge.specs.declared.object.Stage.TheVariants.{Linked, Cut as IsCut, Retired, Queued}
+use Rattle.rcu_judge.specs.declared.object.Stage.TheVariants.{Linked, Cut as IsCut}
 use Rattle.rcu_judge.specs.declared.object.ObjectState.{ObjectState}
 use Rattle.rcu_judge.specs.declared.object.Splice.{Splice}
 use Rattle.rcu_judge.specs.Objects.{is_linked, is_cut, is_retired, is_queued, moment_of, ticket_of, says, number_in, says_linked, after_of, before_of, LeadsTo, Shows, stored, spliced_heads, linked_states, marked_states, left_states, entered, spliced_states}
-use Rattle.rcu_judge.proofs.ObjectsTables.{written_other, written_same, written_keeps, entered_same, entered_other}
+use Rattle.rcu_judge.proofs.ObjectsTables.{stored_at, at_tells, written_is, entered_same, entered_other}
 
 -- tests
-and_true : (a b : Bool) → (a && b) ≡ true → (a ≡ true) × (b ≡ true)
-and_true true b e = (refl, e)
-and_true false b e = absurd (true≢false (sym e))
-
-pub number_same : (m n : ℕ) → m ≡ n → (m == n) ≡ true
-number_same m n e = by (eqb_tells m n)
-  where
-    by : (((m == n) ≡ true) × (m ≡ n)) ⊎ (((m == n) ≡ false) × (m ≢ n)) → (m == n) ≡ true
-    by (inl y) = y.0
-    by (inr n) = absurd (n.1 e)
-
-number_apart : (m n : ℕ) → m ≢ n → (m == n) ≡ false
-number_apart m n e = by (eqb_tells m n)
-  where
-    by : (((m == n) ≡ true) × (m ≡ n)) ⊎ (((m == n) ≡ false) × (m ≢ n)) → (m == n) ≡ false
-    by (inl y) = absurd (e y.1)
-    by (inr n) = n.0
-
-number_told : (m n : ℕ) → (m == n) ≡ true → m ≡ n
-number_told m n e = by (eqb_tells m n)
-  where
-    by : (((m == n) ≡ true) × (m ≡ n)) ⊎ (((m == n) ≡ false) × (m ≢ n)) → m ≡ n
-    by (inl y) = y.1
-    by (inr n) = absurd (true≢false (sym e ∙ n.0))
-
-decide_number : (m n : ℕ) → (m ≡ n) ⊎ (m ≢ n)
-decide_number m n = by (eqb_tells m n)
-  where
-    by : (((m == n) ≡ true) × (m ≡ n)) ⊎ (((m == n) ≡ false) × (m ≢ n)) → (m ≡ n) ⊎ (m ≢ n)
-    by (inl y) = inl y.1
-    by (inr n) = inr n.1
-
 pub not_in : (xs : List ObjectId) (o : ObjectId) → ¬ In xs o → has_object xs o ≡ false
-not_in xs o out = by (has_object xs o) refl
-  where
-    by : (b : Bool) → has_object xs o ≡ b → has_object xs o ≡ false
-    by true e = absurd (out (in_objects xs o e))
-    by false e = e
+not_in xs o out = grind (arith, in_objects)
 
 same_has : (xs ys : List ObjectId) (o : ObjectId) → (In xs o → In ys o) → (In ys o → In xs o) → has_object xs o ≡ has_object ys o
-same_has xs ys o on back = by (has_object xs o) refl
-  where
-    by : (b : Bool) → has_object xs o ≡ b → has_object xs o ≡ has_object ys o
-    by true e = e ∙ sym (has_object_in ys o (on (in_objects xs o e)))
-    by false e = e ∙ sym (not_in ys o (λ h. true≢false (sym (has_object_in xs o (back h)) ∙ e)))
-
-stage_linked : (x : Stage) → is_linked x ≡ true → x ≡ Linked
-stage_linked Linked e = refl
-stage_linked IsCut e = absurd (true≢false (sym e))
-stage_linked (Retired m) e = absurd (true≢false (sym e))
-stage_linked (Queued m t) e = absurd (true≢false (sym e))
+same_has xs ys o on back = grind (arith, has_object_in, in_objects, not_in)
 
 -- what a state that says so is
 pub linked_says : (c : ℕ) (x : Option ObjectState) → says_linked c x ≡ true → (t : ObjectState) × (x ≡ Some t) × (t.stage ≡ Linked) × (t.chain ≡ c)
 linked_says c None e = absurd (true≢false (sym e))
-linked_says c (Some t) e = let a = and_true (is_linked t.stage) (t.chain == c) e in (t, refl, stage_linked t.stage a.0, number_told t.chain c a.1)
-
-pub is_there : (x : Option ObjectState) → is_some x ≡ true → (t : ObjectState) × (x ≡ Some t)
-is_there None e = absurd (true≢false (sym e))
-is_there (Some t) e = (t, refl)
+linked_says c (Some t) e = let a = and_parts (is_linked t.stage) (t.chain == c) e in (t, refl, grind (arith, a), eqb-true t.chain c a.1)
 
 -- the head of a chain, or the link of an object
 abbrev pub word_in : (ℕ → Option ObjectId) → (ObjectId → Option ObjectState) → ℕ → Option ObjectId → Option ObjectId
@@ -75,21 +25,17 @@ word_in head state c None = head c
 word_in head state c (Some o) = after_of (state o)
 
 pub leads : (xs : List ObjectId) (p : Option ObjectId) (o : ObjectId) → LeadsTo xs p o → IsPlace xs p × (follows xs p ≡ Some o)
-leads xs None o h = (tt, h)
-leads xs (Some p) o h = (in_objects xs p h.0, h.1)
+leads xs p o h = grind (arith, in_objects)
 
 leads_back : (xs : List ObjectId) (p : Option ObjectId) (o : ObjectId) → IsPlace xs p → follows xs p ≡ Some o → LeadsTo xs p o
-leads_back xs None o h e = e
-leads_back xs (Some p) o h e = (has_object_in xs p h, e)
+leads_back xs p o h e = grind (arith, has_object_in)
 
 -- the heads that a store leaves
 head_kept : (head : ℕ → Option ObjectId) (c d : ℕ) (b value : Option ObjectId) → b ≢ None → stored head c b value d ≡ head d
-head_kept head c d None value apart = absurd (apart refl)
-head_kept head c d (Some o) value apart = refl
+head_kept head c d b value apart = grind arith
 
 head_else : (head : ℕ → Option ObjectId) (c d : ℕ) (b value : Option ObjectId) → d ≢ c → stored head c b value d ≡ head d
-head_else head c d None value apart = at_number_other c d value head apart
-head_else head c d (Some o) value apart = refl
+head_else head c d b value apart = grind (arith, at_number_other)
 
 -- what the machine's lists are after the store
 pub record Moves (chain chain' : ℕ → List ObjectId) (used used' cut cut' : List ObjectId) (successor successor' : ObjectId → Option ObjectId) (s : Splice) (ys : List ObjectId) : Type 0 where
@@ -99,6 +45,35 @@ pub record Moves (chain chain' : ℕ → List ObjectId) (used used' cut cut' : L
   pub used_else : (o : ObjectId) → s.enters ≢ Some o → has_object used' o ≡ has_object used o
   pub cut_new : (o : ObjectId) → s.leaves ≡ Some o → HasObject cut' o × (successor' o ≡ s.after)
   pub cut_else : (o : ObjectId) → s.leaves ≢ Some o → (has_object cut' o ≡ has_object cut o) × (successor' o ≡ successor o)
+
+-- what a store makes of the state of an object that does not enter
+abbrev became : Splice → ObjectId → ObjectState → ObjectState
+became s o t = record { chain = t.chain; before = cond (stored_at s.after o) (option_or s.enters s.before) t.before; after = cond (stored_at s.before o) (option_or s.enters s.after) t.after; stage = cond (stored_at s.leaves o) IsCut t.stage }
+
+spliced_is : (state : ObjectId → Option ObjectState) (s : Splice) (o : ObjectId) → s.enters ≢ Some o → spliced_states state s o ≡ option_map (became s o) (state o)
+spliced_is state s o n =
+    let one = written_is state s.before (λ x. record x { after = option_or s.enters s.after }) o in
+    let two = written_is (linked_states state s) s.after (λ x. record x { before = option_or s.enters s.before }) o in
+    let three = written_is (marked_states (linked_states state s) s) s.leaves (λ x. record x { stage = IsCut }) o in
+    entered_other (left_states (marked_states (linked_states state s) s) s) s.enters _ o n ∙ three ∙ grind (arith, one, two)
+
+new_became : (state : ObjectId → Option ObjectState) (s : Splice) (o : ObjectId) → s.enters ≡ Some o → spliced_states state s o ≡ Some (record { chain = s.chain; before = s.before; after = s.after; stage = Linked })
+new_became state s o e = entered_same (left_states (marked_states (linked_states state s) s) s) s.enters _ o e
+
+-- views of a state
+module _ (state : ObjectId → Option ObjectState) (s : Splice) (o : ObjectId) (n : s.enters ≢ Some o) where
+  some_same : is_some (spliced_states state s o) ≡ is_some (state o)
+  some_same = grind (arith, spliced_is state s o n)
+
+  after_same : s.before ≢ Some o → after_of (spliced_states state s o) ≡ after_of (state o)
+  after_same b = grind (arith, spliced_is state s o n, at_tells s.before o)
+
+  before_same : s.after ≢ Some o → before_of (spliced_states state s o) ≡ before_of (state o)
+  before_same a = grind (arith, spliced_is state s o n, at_tells s.after o)
+
+  keeps : {X : Type 0} (view : Option ObjectState → X) → ((t : ObjectState) (a b : Option ObjectId) → view (Some (record t { after = a; before = b })) ≡ view (Some t)) →
+      s.leaves ≢ Some o → view (spliced_states state s o) ≡ view (state o)
+  keeps view alike m = grind (arith, spliced_is state s o n, at_tells s.leaves o)
 
 module _ (head : ℕ → Option ObjectId) (state : ObjectId → Option ObjectState) (chain : ℕ → List ObjectId) (used cut : List ObjectId) (successor : ObjectId → Option ObjectId) (retired queued reclaimed : List ObjectId) (moments tickets : ObjectId → ℕ) (k : Shows head state chain used cut successor retired queued reclaimed moments tickets) (l : Linking chain used cut retired) where
   known_in : (c : ℕ) (o : ObjectId) → In (chain c) o → (t : ObjectState) × (state o ≡ Some t) × (t.stage ≡ Linked) × (t.chain ≡ c)
@@ -112,21 +87,11 @@ module _ (head : ℕ → Option ObjectId) (state : ObjectId → Option ObjectSta
   }
     where
       words : (q : Option ObjectId) → IsPlace (chain c) q → word_in head state c q ≡ follows (chain c) q
-      words None h = k.firsts c
-      words (Some o) h = k.nexts c o (has_object_in (chain c) o h)
+      words q h = grind (arith, has_object_in)
 
   module _ (s : Splice) (ys : List ObjectId) (sp : Spliced (chain s.chain) ys s.before s.after s.leaves s.enters) (fresh : (m : ObjectId) → s.enters ≡ Some m → state m ≡ None) where
     abbrev newly : ObjectState
     newly = record { chain = s.chain; before = s.before; after = s.after; stage = Linked }
-
-    abbrev s1 : ObjectId → Option ObjectState
-    s1 = linked_states state s
-
-    abbrev s2 : ObjectId → Option ObjectState
-    s2 = marked_states s1 s
-
-    abbrev s3 : ObjectId → Option ObjectState
-    s3 = left_states s2 s
 
     abbrev s4 : ObjectId → Option ObjectState
     s4 = spliced_states state s
@@ -151,91 +116,32 @@ module _ (head : ℕ → Option ObjectId) (state : ObjectId → Option ObjectSta
     enters_out d o e h = none_some ((known_in d o h).0) (sym (fresh o e) ∙ (known_in d o h).1)
 
     before_stays : (o : ObjectId) → s.before ≡ Some o → s.leaves ≢ Some o
-    before_stays o e f = by (sp.back o (subst (IsPlace ys) e sp.place_after))
-      where
-        by : (s.enters ≡ Some o) ⊎ (In (chain s.chain) o × (s.leaves ≢ Some o)) → ⊥
-        by (inl g) = enters_out s.chain o g (left_has o f)
-        by (inr g) = g.1 f
+    before_stays o e f = grind (arith, enters_out, left_has)
 
     -- an object of another chain, or of none, that does not enter
     home : (d : ℕ) (o : ObjectId) → d ≢ s.chain → In (chain d) o → ¬ In (chain s.chain) o
     home d o apart h g = apart (l.one_chain d s.chain o h g)
 
-    -- views of a state
-    some_same : (o : ObjectId) → s.enters ≢ Some o → is_some (s4 o) ≡ is_some (state o)
-    some_same o n = ap is_some (entered_other s3 s.enters newly o n) ∙ written_keeps is_some s2 s.leaves _ (λ t. refl) o ∙ written_keeps is_some s1 s.after _ (λ t. refl) o ∙ written_keeps is_some state s.before _ (λ t. refl) o
-
-    keeps : {X : Type 0} (view : Option ObjectState → X) →
-        ((t : ObjectState) (a : Option ObjectId) → view (Some (record t { after = a })) ≡ view (Some t)) →
-        ((t : ObjectState) (b : Option ObjectId) → view (Some (record t { before = b })) ≡ view (Some t)) →
-        (o : ObjectId) → s.enters ≢ Some o → s.leaves ≢ Some o → view (s4 o) ≡ view (state o)
-    keeps view of_after of_before o n m =
-        ap view (entered_other s3 s.enters newly o n ∙ written_other s2 s.leaves _ o m)
-        ∙ written_keeps view s1 s.after _ (λ t. of_before t (option_or s.enters s.before)) o
-        ∙ written_keeps view state s.before _ (λ t. of_after t (option_or s.enters s.after)) o
-
-    left_is : (o : ObjectId) → s.enters ≢ Some o → s.leaves ≡ Some o → (t : ObjectState) × (s4 o ≡ Some (record t { stage = IsCut }))
-    left_is o n e =
-        let t = known_in s.chain o (left_has o e) in
-        let two = is_there (s2 o) (written_keeps is_some s1 s.after _ (λ t. refl) o ∙ written_keeps is_some state s.before _ (λ t. refl) o ∙ ap is_some t.1) in
-        (two.0, entered_other s3 s.enters newly o n ∙ written_same s2 s.leaves _ o two.0 e two.1)
-
-    after_late : (o : ObjectId) → s.enters ≢ Some o → after_of (s4 o) ≡ after_of (s1 o)
-    after_late o n = ap after_of (entered_other s3 s.enters newly o n) ∙ written_keeps after_of s2 s.leaves _ (λ t. refl) o ∙ written_keeps after_of s1 s.after _ (λ t. refl) o
-
-    after_same : (o : ObjectId) → s.enters ≢ Some o → s.before ≢ Some o → after_of (s4 o) ≡ after_of (state o)
-    after_same o n b = after_late o n ∙ ap after_of (written_other state s.before _ o b)
-
     after_stored : (o : ObjectId) → s.before ≡ Some o → after_of (s4 o) ≡ option_or s.enters s.after
     after_stored o e =
-        let h = before_has o e in
-        let t = known_in s.chain o h in
-        after_late o (λ f. enters_out s.chain o f h) ∙ ap after_of (written_same state s.before _ o t.0 e t.1)
-
-    before_late : (o : ObjectId) → s.enters ≢ Some o → before_of (s4 o) ≡ before_of (s2 o)
-    before_late o n = ap before_of (entered_other s3 s.enters newly o n) ∙ written_keeps before_of s2 s.leaves _ (λ t. refl) o
-
-    before_same : (o : ObjectId) → s.enters ≢ Some o → s.after ≢ Some o → before_of (s4 o) ≡ before_of (state o)
-    before_same o n a = before_late o n ∙ ap before_of (written_other s1 s.after _ o a) ∙ written_keeps before_of state s.before _ (λ t. refl) o
+        let t = known_in s.chain o (before_has o e) in
+        ap after_of (spliced_is state s o (λ f. enters_out s.chain o f (before_has o e)) ∙ ap (option_map (became s o)) t.1) ∙ grind (arith, at_tells s.before o)
 
     before_marked : (o : ObjectId) → s.enters ≢ Some o → s.after ≡ Some o → before_of (s4 o) ≡ option_or s.enters s.before
-    before_marked o n e =
-        let t = known_in s.chain o (after_has o e) in
-        let one = is_there (s1 o) (written_keeps is_some state s.before _ (λ t. refl) o ∙ ap is_some t.1) in
-        before_late o n ∙ ap before_of (written_same s1 s.after _ o one.0 e one.1)
+    before_marked o n e = let t = known_in s.chain o (after_has o e) in ap before_of (spliced_is state s o n ∙ ap (option_map (became s o)) t.1) ∙ grind (arith, at_tells s.after o)
+
+    left_is : (o : ObjectId) → s.enters ≢ Some o → s.leaves ≡ Some o → (t : ObjectState) × (s4 o ≡ Some t) × (t.stage ≡ IsCut)
+    left_is o n e = let t = known_in s.chain o (left_has o e) in (became s o t.0, spliced_is state s o n ∙ ap (option_map (became s o)) t.1, grind (arith, at_tells s.leaves o))
 
     -- the entering object with its link, before the store
     abbrev ready : ObjectId → Option ObjectState
     ready = entered state s.enters newly
 
     writes : Written (word_in head ready s.chain) (word_in head' s4 s.chain) (λ o. before_of (ready o)) (λ o. before_of (s4 o)) s.before s.after s.enters
-    writes = record {
-      stored = at_place s.before refl;
-      others = others;
-      fresh = λ m e. (ap after_of (entered_same state s.enters newly m e), ap before_of (entered_same s3 s.enters newly m e));
-      marked = λ o e apart. before_marked o apart e;
-      unmarked = λ o apart n. before_same o n apart ∙ sym (ap before_of (entered_other state s.enters newly o n));
-    }
-      where
-        at_place : (p : Option ObjectId) → s.before ≡ p → word_in head' s4 s.chain p ≡ option_or s.enters s.after
-        at_place None e = ap (λ (b : Option ObjectId). stored head s.chain b (option_or s.enters s.after) s.chain) e ∙ at_number_same s.chain (option_or s.enters s.after) head
-        at_place (Some o) e = after_stored o e
-
-        of_object : (o : ObjectId) → s.before ≢ Some o → (s.enters ≡ Some o) ⊎ (s.enters ≢ Some o) → after_of (s4 o) ≡ after_of (ready o)
-        of_object o apart (inl e) = ap after_of (entered_same s3 s.enters newly o e) ∙ sym (ap after_of (entered_same state s.enters newly o e))
-        of_object o apart (inr n) = after_same o n apart ∙ sym (ap after_of (entered_other state s.enters newly o n))
-
-        others : (q : Option ObjectId) → q ≢ s.before → word_in head' s4 s.chain q ≡ word_in head ready s.chain q
-        others None apart = head_kept head s.chain s.chain s.before (option_or s.enters s.after) (λ e. apart (sym e))
-        others (Some o) apart = of_object o (λ e. apart (sym e)) (decide_place s.enters (Some o))
+    writes = grind (arith, entered_same, before_marked, before_same state s, entered_other, at_number_same, after_stored, after_same state s, head_kept, decide_place)
 
     chain_ready : ChainKept (chain s.chain) (word_in head ready s.chain) (λ o. before_of (ready o))
-    chain_ready = chain_framed (chain s.chain) (word_in head state s.chain) (word_in head ready s.chain) (λ o. before_of (state o)) (λ o. before_of (ready o)) words
-        (λ o h. ap before_of (entered_other state s.enters newly o (λ e. enters_out s.chain o e h))) (chain_known s.chain)
-      where
-        words : (q : Option ObjectId) → IsPlace (chain s.chain) q → word_in head ready s.chain q ≡ word_in head state s.chain q
-        words None h = refl
-        words (Some o) h = ap after_of (entered_other state s.enters newly o (λ e. enters_out s.chain o e h))
+    chain_ready = grind (arith, chain_framed, entered_other, enters_out, chain_known)
 
     module _ (chain' : ℕ → List ObjectId) (used' cut' : List ObjectId) (successor' : ObjectId → Option ObjectId) (mv : Moves chain chain' used used' cut cut' successor successor' s ys) where
       chains' : (c : ℕ) → (c ≡ s.chain) ⊎ (c ≢ s.chain) → ChainKept (chain' c) (word_in head' s4 c) (λ o. before_of (s4 o))
@@ -246,14 +152,13 @@ module _ (head : ℕ → Option ObjectId) (state : ObjectId → Option ObjectSta
       chains' c (inr apart) =
           subst (λ (xs : List ObjectId). ChainKept xs (word_in head' s4 c) (λ o. before_of (s4 o))) (sym (mv.chain_else c apart))
           (chain_framed (chain c) (word_in head state c) (word_in head' s4 c) (λ o. before_of (state o)) (λ o. before_of (s4 o)) words
-          (λ o h. before_same o (λ e. enters_out c o e h) (λ e. home c o apart h (after_has o e))) (chain_known c))
+          (λ o h. before_same state s o (λ e. enters_out c o e h) (λ e. home c o apart h (after_has o e))) (chain_known c))
         where
           words : (q : Option ObjectId) → IsPlace (chain c) q → word_in head' s4 c q ≡ word_in head state c q
-          words None h = head_else head s.chain c s.before (option_or s.enters s.after) apart
-          words (Some o) h = after_same o (λ e. enters_out c o e h) (λ e. home c o apart h (before_has o e))
+          words q h = grind (arith, head_else, after_same state s, enters_out, home, before_has)
 
       at_chain : (c : ℕ) → ChainKept (chain' c) (word_in head' s4 c) (λ o. before_of (s4 o))
-      at_chain c = chains' c (decide_number c s.chain)
+      at_chain c = chains' c (cases_eq c s.chain)
 
       has_else : (c : ℕ) (o : ObjectId) → c ≢ s.chain → has_object (chain c) o ≡ has_object (chain' c) o
       has_else c o apart = ap (λ (xs : List ObjectId). has_object xs o) (sym (mv.chain_else c apart))
@@ -265,77 +170,38 @@ module _ (head : ℕ → Option ObjectId) (state : ObjectId → Option ObjectSta
       from_home c o e h = subst (λ (xs : List ObjectId). In xs o) mv.chain_is (subst (λ d. In (chain' d) o) e h)
 
       linked' : (c : ℕ) (o : ObjectId) → (s.enters ≡ Some o) ⊎ (s.enters ≢ Some o) → (s.leaves ≡ Some o) ⊎ (s.leaves ≢ Some o) → (c ≡ s.chain) ⊎ (c ≢ s.chain) → says_linked c (s4 o) ≡ has_object (chain' c) o
-      linked' c o (inl e) out (inl same) =
-          ap (says_linked c) (entered_same s3 s.enters newly o e) ∙ number_same s.chain c (sym same)
-          ∙ sym (has_object_in (chain' c) o (at_home c o same (sp.entered o e).0))
-      linked' c o (inl e) out (inr apart) =
-          ap (says_linked c) (entered_same s3 s.enters newly o e) ∙ number_apart s.chain c (λ f. apart (sym f))
-          ∙ sym (not_in (chain c) o (enters_out c o e)) ∙ has_else c o apart
-      linked' c o (inr n) (inl e) (inl same) =
-          ap (says_linked c) (left_is o n e).1
-          ∙ sym (not_in (chain' c) o (λ h. gone (sp.back o (from_home c o same h))))
-        where
-          gone : (s.enters ≡ Some o) ⊎ (In (chain s.chain) o × (s.leaves ≢ Some o)) → ⊥
-          gone (inl f) = n f
-          gone (inr g) = g.1 e
-      linked' c o (inr n) (inl e) (inr apart) =
-          ap (says_linked c) (left_is o n e).1
-          ∙ sym (not_in (chain c) o (λ h. home c o apart h (left_has o e))) ∙ has_else c o apart
+      linked' c o (inl e) out (inl same) = grind (arith, new_became state s o e, eq-eqb s.chain c (sym same), has_object_in (chain' c) o (at_home c o same (sp.entered o e).0))
+      linked' c o (inl e) out (inr apart) = grind (arith, new_became state s o e, ne_eqb s.chain c (λ f. apart (sym f)), not_in (chain c) o (enters_out c o e), has_else c o apart)
+      linked' c o (inr n) (inl e) (inl same) = grind (arith, left_is o n e, not_in (chain' c) o, sp.back o, from_home c o same)
+      linked' c o (inr n) (inl e) (inr apart) = grind (arith, left_is o n e, not_in (chain c) o, home c o apart, left_has o e, has_else c o apart)
       linked' c o (inr n) (inr m) (inl same) =
-          keeps (says_linked c) (λ t a. refl) (λ t b. refl) o n m ∙ k.linked c o
-          ∙ same_has (chain c) (chain' c) o (λ h. at_home c o same (sp.on o (subst (λ d. In (chain d) o) same h) m)) (λ h. stays (sp.back o (from_home c o same h)))
-        where
-          stays : (s.enters ≡ Some o) ⊎ (In (chain s.chain) o × (s.leaves ≢ Some o)) → In (chain c) o
-          stays (inl f) = absurd (n f)
-          stays (inr g) = subst (λ d. In (chain d) o) (sym same) g.0
-      linked' c o (inr n) (inr m) (inr apart) = keeps (says_linked c) (λ t a. refl) (λ t b. refl) o n m ∙ k.linked c o ∙ has_else c o apart
+          keeps state s o n (says_linked c) (λ t a b. refl) m ∙ k.linked c o
+          ∙ same_has (chain c) (chain' c) o (λ h. at_home c o same (sp.on o (subst (λ d. In (chain d) o) same h) m)) (λ h. let back = sp.back o (from_home c o same h) in grind (arith, back))
+      linked' c o (inr n) (inr m) (inr apart) = keeps state s o n (says_linked c) (λ t a b. refl) m ∙ k.linked c o ∙ has_else c o apart
 
       successors' : (o : ObjectId) → HasObject cut' o → (s.leaves ≡ Some o) ⊎ (s.leaves ≢ Some o) → after_of (s4 o) ≡ successor' o
       successors' o h (inl e) =
           let g = left_has o e in
-          after_same o (λ f. enters_out s.chain o f g) (λ f. before_stays o f e) ∙ k.nexts s.chain o (has_object_in (chain s.chain) o g) ∙ (sp.left o e).1 ∙ sym (mv.cut_new o e).1
+          after_same state s o (λ f. enters_out s.chain o f g) (λ f. before_stays o f e) ∙ k.nexts s.chain o (has_object_in (chain s.chain) o g) ∙ (sp.left o e).1 ∙ sym (mv.cut_new o e).1
       successors' o h (inr m) =
           let was : HasObject cut o = sym (mv.cut_else o m).0 ∙ h in
           let says_so : says is_cut (state o) ≡ true = k.was_cut o ∙ was in
-          after_same o (λ f. true≢false (sym says_so ∙ ap (says is_cut) (fresh o f))) (λ f. l.linked_not_cut s.chain o (before_has o f) (in_objects cut o was)) ∙ k.successors o was ∙ sym (mv.cut_else o m).1
+          after_same state s o (λ f. true≢false (sym says_so ∙ ap (says is_cut) (fresh o f))) (λ f. l.linked_not_cut s.chain o (before_has o f) (in_objects cut o was)) ∙ k.successors o was ∙ sym (mv.cut_else o m).1
 
       known' : (o : ObjectId) → (s.enters ≡ Some o) ⊎ (s.enters ≢ Some o) → is_some (s4 o) ≡ has_object used' o
-      known' o (inl e) = ap is_some (entered_same s3 s.enters newly o e) ∙ sym (mv.used_new o e)
-      known' o (inr n) = some_same o n ∙ k.known o ∙ sym (mv.used_else o n)
+      known' o h = grind (arith, new_became state s o, some_same state s o, mv.used_new o, mv.used_else o, k.known o)
 
       cut_now : (o : ObjectId) → (s.enters ≡ Some o) ⊎ (s.enters ≢ Some o) → (s.leaves ≡ Some o) ⊎ (s.leaves ≢ Some o) → says is_cut (s4 o) ≡ has_object cut' o
-      cut_now o (inl e) out =
-          ap (says is_cut) (entered_same s3 s.enters newly o e) ∙ sym (ap (says is_cut) (fresh o e)) ∙ k.was_cut o
-          ∙ sym (mv.cut_else o (λ f. enters_out s.chain o e (left_has o f))).0
-      cut_now o (inr n) (inl e) = ap (says is_cut) (left_is o n e).1 ∙ sym (mv.cut_new o e).0
-      cut_now o (inr n) (inr m) = keeps (says is_cut) (λ t a. refl) (λ t b. refl) o n m ∙ k.was_cut o ∙ sym (mv.cut_else o m).0
+      cut_now o (inl e) out = grind (arith, new_became state s o e, fresh o e, k.was_cut o, mv.cut_else o, enters_out s.chain o e, left_has o)
+      cut_now o (inr n) (inl e) = grind (arith, left_is o n e, mv.cut_new o e)
+      cut_now o (inr n) (inr m) = keeps state s o n (says is_cut) (λ t a b. refl) m ∙ k.was_cut o ∙ sym (mv.cut_else o m).0
 
-      -- a view that tells neither a linked nor a cut object from an unknown one
-      view_kept : {X : Type 0} (view : Option ObjectState → X) →
-          ((t : ObjectState) → (t.stage ≡ Linked) ⊎ (t.stage ≡ IsCut) → view (Some t) ≡ view None) →
-          ((t : ObjectState) (a : Option ObjectId) → view (Some (record t { after = a })) ≡ view (Some t)) →
-          ((t : ObjectState) (b : Option ObjectId) → view (Some (record t { before = b })) ≡ view (Some t)) →
-          (o : ObjectId) → (s.enters ≡ Some o) ⊎ (s.enters ≢ Some o) → (s.leaves ≡ Some o) ⊎ (s.leaves ≢ Some o) → view (s4 o) ≡ view (state o)
-      view_kept view blind of_after of_before o (inl e) out = ap view (entered_same s3 s.enters newly o e) ∙ blind newly (inl refl) ∙ sym (ap view (fresh o e))
-      view_kept view blind of_after of_before o (inr n) (inl e) =
-          let t = known_in s.chain o (left_has o e) in
-          let x = left_is o n e in
-          ap view x.1 ∙ blind (record x.0 { stage = IsCut }) (inr refl) ∙ sym (ap view t.1 ∙ blind t.0 (inl t.2))
-      view_kept view blind of_after of_before o (inr n) (inr m) = keeps view of_after of_before o n m
-
+      -- what is said alike of a linked, a cut and an unknown object
       says_kept : (test : Stage → Bool) → test Linked ≡ false → test IsCut ≡ false → (o : ObjectId) → says test (s4 o) ≡ says test (state o)
-      says_kept test a b o = view_kept (says test) blind (λ t a. refl) (λ t b. refl) o (decide_place s.enters (Some o)) (decide_place s.leaves (Some o))
-        where
-          blind : (t : ObjectState) → (t.stage ≡ Linked) ⊎ (t.stage ≡ IsCut) → test t.stage ≡ false
-          blind t (inl e) = ap test e ∙ a
-          blind t (inr e) = ap test e ∙ b
+      says_kept test a b o = grind (arith, decide_place s.enters (Some o), decide_place s.leaves (Some o), new_became state s o, fresh o, left_is o, left_has o, known_in s.chain o, λ (n : s.enters ≢ Some o). keeps state s o n (says test) (λ t a b. refl))
 
       number_kept : (number : Stage → Option ℕ) → number Linked ≡ None → number IsCut ≡ None → (o : ObjectId) → number_in number (s4 o) ≡ number_in number (state o)
-      number_kept number a b o = view_kept (number_in number) blind (λ t a. refl) (λ t b. refl) o (decide_place s.enters (Some o)) (decide_place s.leaves (Some o))
-        where
-          blind : (t : ObjectState) → (t.stage ≡ Linked) ⊎ (t.stage ≡ IsCut) → number t.stage ≡ None
-          blind t (inl e) = ap number e ∙ a
-          blind t (inr e) = ap number e ∙ b
+      number_kept number a b o = grind (arith, decide_place s.enters (Some o), decide_place s.leaves (Some o), new_became state s o, fresh o, left_is o, left_has o, known_in s.chain o, λ (n : s.enters ≢ Some o). keeps state s o n (number_in number) (λ t a b. refl))
 
       pub shows_spliced : Shows head' s4 chain' used' cut' successor' retired queued reclaimed moments tickets
       shows_spliced = record {
@@ -343,7 +209,7 @@ module _ (head : ℕ → Option ObjectId) (state : ObjectId → Option ObjectSta
         nexts = λ c o h. (at_chain c).words (Some o) (in_objects (chain' c) o h);
         befores = λ c o h. let b = (at_chain c).befores o (in_objects (chain' c) o h) in leads_back (chain' c) (before_of (s4 o)) o b.0 b.1;
         successors = λ o h. successors' o h (decide_place s.leaves (Some o));
-        linked = λ c o. linked' c o (decide_place s.enters (Some o)) (decide_place s.leaves (Some o)) (decide_number c s.chain);
+        linked = λ c o. linked' c o (decide_place s.enters (Some o)) (decide_place s.leaves (Some o)) (cases_eq c s.chain);
         known = λ o. known' o (decide_place s.enters (Some o));
         was_cut = λ o. cut_now o (decide_place s.enters (Some o)) (decide_place s.leaves (Some o));
         was_retired = λ o. says_kept is_retired refl refl o ∙ k.was_retired o;

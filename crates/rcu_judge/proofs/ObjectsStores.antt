@@ -1,8 +1,9 @@
 -- What a push, a replacement and a cut make of what is known of objects.
-use Rattle.rcu_judge.proofs.Cited.{◌≡◌, ◌≢◌, inl, inr, ℕ, Bool, true, false, ◌&&◌, ◌==◌, ◌↔◌, IsTrue, if◌then◌else◌, List, ◌∷◌, is_some, Option, Some, None, refl, sym, ap, ◌∙◌, subst, true≢false, ObjectId, Push, Replace, Cut, State, after, same_object, has_object, HasObject, without_object, at_number, at_object, next_of, replaced, In, Tells, object_tells, in_objects, has_object_in, at_number_same, at_number_other, at_object_same, at_object_other, Kept, kept_log, IsPlace, follows, some_is, none_some, Spliced, push_splices, replace_splices, cut_splices}
+use Rattle.rcu_judge.proofs.Cited.{arith, ◌≡◌, ◌≢◌, ℕ, true, false, ◌↔◌, IsTrue, List, ◌∷◌, is_some, Option, Some, None, refl, sym, ap, ◌∙◌, subst, true≢false, ObjectId, Push, Replace, Cut, State, after, has_object, HasObject, without_object, at_number, at_object, next_of, replaced, In, object_tells, in_objects, has_object_in, at_number_same, at_number_other, at_object_same, at_object_other, Kept, kept_log, IsPlace, follows, some_is, none_some, Spliced, push_splices, replace_splices, cut_splices}
 use Rattle.rcu_judge.specs.declared.object.ObjectState.{ObjectState}
 use Rattle.rcu_judge.specs.declared.object.Splice.{Splice}
-use Rattle.rcu_judge.specs.Objects.{is_linked, says_linked, linked_state, after_of, before_of, Shows, IsReached, spliced_heads, spliced_states}
+use Rattle.rcu_judge.specs.Objects.{says_linked, linked_state, after_of, before_of, Shows, IsReached, spliced_heads, spliced_states}
+use Rattle.rcu_judge.proofs.Members.{has_more}
 use Rattle.rcu_judge.proofs.ObjectsLinking.{leads, shows_spliced}
 
 pub kept_reached : (now : State) → IsReached now → Kept now
@@ -16,48 +17,15 @@ pub done : {A B : Type 0} → A → B → (IsTrue true ↔ A) × (IsTrue true �
 done a b = ((λ e. a, λ a. refl), λ e. b)
 
 -- a list with one object more
-pub has_first : (xs : List ObjectId) (o p : ObjectId) → o ≡ p → HasObject (o ∷ xs) p
-has_first xs o p e = has_object_in (o ∷ xs) p (inl e)
-
 pub has_past : (xs : List ObjectId) (o p : ObjectId) → o ≢ p → has_object (o ∷ xs) p ≡ has_object xs p
-has_past xs o p apart = by (object_tells o p)
-  where
-    by : Tells (same_object o p) o p → has_object (o ∷ xs) p ≡ has_object xs p
-    by (inl y) = absurd (apart y.1)
-    by (inr n) = rw n.0 refl
-
-pub has_more : (xs : List ObjectId) (o p : ObjectId) → HasObject xs p → HasObject (o ∷ xs) p
-has_more xs o p h = has_object_in (o ∷ xs) p (inr (in_objects xs p h))
+has_past xs o p apart = grind (arith, object_tells)
 
 -- the state of a linked object
 pub linked_state_is : (c : ℕ) (x : Option ObjectState) (t : ObjectState) → linked_state c x ≡ Some t → (x ≡ Some t) × (says_linked c x ≡ true)
-linked_state_is c None t e = absurd (none_some t e)
-linked_state_is c (Some u) t e = by (is_linked u.stage && (u.chain == c)) refl e
-  where
-    by : (b : Bool) → (is_linked u.stage && (u.chain == c)) ≡ b → (if b then Some u else None) ≡ Some t → (Some u ≡ Some t) × ((is_linked u.stage && (u.chain == c)) ≡ true)
-    by true test f = (f, test)
-    by false test f = absurd (none_some t f)
-
-pub linked_state_none : (c : ℕ) (x : Option ObjectState) → linked_state c x ≡ None → says_linked c x ≡ false
-linked_state_none c None e = refl
-linked_state_none c (Some u) e = by (is_linked u.stage && (u.chain == c)) refl e
-  where
-    by : (b : Bool) → (is_linked u.stage && (u.chain == c)) ≡ b → (if b then Some u else None) ≡ None → (is_linked u.stage && (u.chain == c)) ≡ false
-    by true test f = absurd (none_some u (sym f))
-    by false test f = test
+linked_state_is c x t e = grind (arith, none_some)
 
 pub not_there : (x : Option ObjectState) → is_some x ≡ false → x ≡ None
-not_there None e = refl
-not_there (Some t) e = absurd (true≢false e)
-
--- tables that are alike show the same
-pub shows_at : (head head' : ℕ → Option ObjectId) (state state' : ObjectId → Option ObjectState) (now : State) (moments tickets : ObjectId → ℕ) →
-    head' ≡ head → state' ≡ state →
-    Shows head state now.chain now.used now.cut now.successor now.retired now.queued now.reclaimed moments tickets →
-    Shows head' state' now.chain now.used now.cut now.successor now.retired now.queued now.reclaimed moments tickets
-shows_at head head' state state' now moments tickets e f k =
-    subst (λ (h : ℕ → Option ObjectId). Shows h state' now.chain now.used now.cut now.successor now.retired now.queued now.reclaimed moments tickets) (sym e)
-    (subst (λ (g : ObjectId → Option ObjectState). Shows head g now.chain now.used now.cut now.successor now.retired now.queued now.reclaimed moments tickets) (sym f) k)
+not_there x e = grind arith
 
 module _ (head : ℕ → Option ObjectId) (state : ObjectId → Option ObjectState) (now : State) (moments tickets : ObjectId → ℕ) (kept : Kept now) (k : Shows head state now.chain now.used now.cut now.successor now.retired now.queued now.reclaimed moments tickets) where
   abbrev ShowsNow : (ℕ → Option ObjectId) → (ObjectId → Option ObjectState) → State → Type 0
@@ -78,14 +46,7 @@ module _ (head : ℕ → Option ObjectId) (state : ObjectId → Option ObjectSta
       (subst (λ (x : Option ObjectId). Spliced (now.chain c) (o ∷ now.chain c) None x None (Some o)) (sym (e ∙ k.firsts c)) (push_splices (now.chain c) o (kept.linking.once c) (out c o new)))
       (λ m f. ap state (sym (some_is o m f)) ∙ new)
       (at_number c (o ∷ now.chain c) now.chain) (o ∷ now.used) now.cut now.successor
-      (record {
-        chain_is = at_number_same c (o ∷ now.chain c) now.chain;
-        chain_else = λ d apart. at_number_other c d (o ∷ now.chain c) now.chain apart;
-        used_new = λ p f. has_first now.used o p (some_is o p f);
-        used_else = λ p f. has_past now.used o p (λ g. f (ap Some g));
-        cut_new = λ p f. absurd (none_some p f);
-        cut_else = λ p f. (refl, refl);
-      })
+      (grind (arith, at_number_same, at_number_other, has_more, has_past))
 
   module _ (c : ℕ) (old : ObjectId) (t : ObjectState) (is : linked_state c (state old) ≡ Some t) where
     was : state old ≡ Some t
@@ -100,14 +61,6 @@ module _ (head : ℕ → Option ObjectId) (state : ObjectId → Option ObjectSta
     place : IsPlace (now.chain c) t.before × (follows (now.chain c) t.before ≡ Some old)
     place = subst (λ (p : Option ObjectId). IsPlace (now.chain c) p × (follows (now.chain c) p ≡ Some old)) (ap before_of was) (leads (now.chain c) (before_of (state old)) old (k.befores c old has_old))
 
-    cut_new : (p : ObjectId) → Some old ≡ Some p → HasObject (old ∷ now.cut) p × (at_object old (next_of (now.chain c) old) now.successor p ≡ t.after)
-    cut_new p e =
-        let same = some_is old p e in
-        (has_first now.cut old p same, ap (at_object old (next_of (now.chain c) old) now.successor) (sym same) ∙ at_object_same old (next_of (now.chain c) old) now.successor ∙ next_is)
-
-    cut_else : (p : ObjectId) → Some old ≢ Some p → (has_object (old ∷ now.cut) p ≡ has_object now.cut p) × (at_object old (next_of (now.chain c) old) now.successor p ≡ now.successor p)
-    cut_else p n = (has_past now.cut old p (λ e. n (ap Some e)), at_object_other old p (next_of (now.chain c) old) now.successor (λ e. n (ap Some (sym e))))
-
     pub shows_replaced : (new : ObjectId) → state new ≡ None →
         let s : Splice = record { chain = c; before = t.before; after = t.after; leaves = Some old; enters = Some new } in ShowsNow (spliced_heads head s) (spliced_states state s) (after now (Replace c old new))
     shows_replaced new none =
@@ -117,14 +70,7 @@ module _ (head : ℕ → Option ObjectId) (state : ObjectId → Option ObjectSta
         (replace_splices (now.chain c) old new t.before (kept.linking.once c) (out c new none) (in_objects (now.chain c) old has_old) place.0 place.1))
         (λ m f. ap state (sym (some_is new m f)) ∙ none)
         (at_number c (replaced old new (now.chain c)) now.chain) (new ∷ now.used) (old ∷ now.cut) (at_object old (next_of (now.chain c) old) now.successor)
-        (record {
-          chain_is = at_number_same c (replaced old new (now.chain c)) now.chain;
-          chain_else = λ d apart. at_number_other c d (replaced old new (now.chain c)) now.chain apart;
-          used_new = λ p f. has_first now.used new p (some_is new p f);
-          used_else = λ p f. has_past now.used new p (λ g. f (ap Some g));
-          cut_new = cut_new;
-          cut_else = cut_else;
-        })
+        (grind (arith, at_number_same, at_number_other, at_object_same, at_object_other, has_more, has_past, next_is))
 
     pub shows_cut : let s : Splice = record { chain = c; before = t.before; after = t.after; leaves = Some old; enters = None } in ShowsNow (spliced_heads head s) (spliced_states state s) (after now (Cut c old))
     shows_cut =
@@ -134,11 +80,4 @@ module _ (head : ℕ → Option ObjectId) (state : ObjectId → Option ObjectSta
         (cut_splices (now.chain c) old t.before (kept.linking.once c) (in_objects (now.chain c) old has_old) place.0 place.1))
         (λ m f. absurd (none_some m f))
         (at_number c (without_object old (now.chain c)) now.chain) now.used (old ∷ now.cut) (at_object old (next_of (now.chain c) old) now.successor)
-        (record {
-          chain_is = at_number_same c (without_object old (now.chain c)) now.chain;
-          chain_else = λ d apart. at_number_other c d (without_object old (now.chain c)) now.chain apart;
-          used_new = λ p f. absurd (none_some p f);
-          used_else = λ p f. refl;
-          cut_new = cut_new;
-          cut_else = cut_else;
-        })
+        (grind (arith, at_number_same, at_number_other, at_object_same, at_object_other, has_more, has_past, next_is))

@@ -1,16 +1,14 @@
 -- The tables of the checker as functions, and writes into them.
-use Rattle.rcu_judge.proofs.Cited.{◌≡◌, ◌≢◌, ◌⊎◌, inl, inr, ℕ, ◌==◌, cond, nat_eq, Option, Some, None, refl, sym, ap, ◌∙◌, subst, true≢false, Result, Ok, Err, OnErr, IsOk, HashMap, IsEmpty, IsUnchanged, get, lookup, eqb_tells, ObjectId, same_object, at_number, at_object, Tells, object_tells, at_number_same, at_number_other, at_object_same, at_object_other, decide, some_is, none_some}
+use Rattle.rcu_judge.proofs.Cited.{Bool, option_eq, option_map, arith, ◌≡◌, ◌≢◌, ℕ, ◌==◌, cond, nat_eq, Option, Some, None, sym, ap, ◌∙◌, subst, Result, OnErr, IsOk, HashMap, IsEmpty, IsUnchanged, get, lookup, eqb_tells, ObjectId, same_object, at_number, at_object, Tells, object_tells, at_number_same, at_number_other, at_object_same, at_object_other, decide, some_is, none_some}
 use Rattle.rcu_judge.specs.declared.object.ObjectState.{ObjectState}
 use Rattle.rcu_judge.specs.Objects.{states_of, heads_of, write_at, written, entered}
 
 -- what holds at an error
 pub on_err : {T E P : Type 0} (r : Result T E) → P → OnErr r P
-on_err (Ok x) p = tt
-on_err (Err e) p = p
+on_err r p = grind arith
 
 pub never_err : {T E : Type 0} (r : Result T E) (P : Type 0) → IsOk r → OnErr r P
-never_err (Ok x) P is = tt
-never_err (Err e) P is = absurd (true≢false (sym is))
+never_err r P is = grind arith
 
 -- an empty table
 pub states_empty : {S : Type 0} (m : HashMap ObjectId ObjectState S) → IsEmpty m → (o : ObjectId) → states_of m o ≡ None
@@ -28,8 +26,7 @@ unfolding states_of
 states_put m n o x e i q = at_key q (object_tells o q) i
   where
     at_key : (q : ObjectId) → Tells (same_object o q) o q → get same_object n q ≡ at_object o x (λ p. get same_object m p) q
-    at_key q (inl y) = e q ∙ rw y.0 refl ∙ sym (ap (at_object o x (λ p. get same_object m p)) (sym y.1) ∙ at_object_same o x (λ p. get same_object m p))
-    at_key q (inr n) = e q ∙ rw n.0 refl ∙ sym (at_object_other o q x (λ p. get same_object m p) (λ f. n.1 (sym f)))
+    at_key q h = grind (arith, at_object_same, at_object_other)
 
 pub heads_put : {S : Type 0} (m n : HashMap ℕ ObjectId S) (c : ℕ) (x : Option ObjectId) →
     ((q : ℕ) → get nat_eq n q ≡ cond (nat_eq c q) x (get nat_eq m q)) → heads_of n ≡ at_number c x (heads_of m)
@@ -37,8 +34,7 @@ unfolding heads_of
 heads_put m n c x e i q = at_key q (eqb_tells c q) i
   where
     at_key : (q : ℕ) → Tells (c == q) c q → get nat_eq n q ≡ at_number c x (λ p. get nat_eq m p) q
-    at_key q (inl y) = e q ∙ rw y.0 refl ∙ sym (ap (at_number c x (λ p. get nat_eq m p)) (sym y.1) ∙ at_number_same c x (λ p. get nat_eq m p))
-    at_key q (inr n) = e q ∙ rw n.0 refl ∙ sym (at_number_other c q x (λ p. get nat_eq m p) (λ f. n.1 (sym f)))
+    at_key q h = grind (arith, at_number_same, at_number_other)
 
 -- a table with the same entries, or the same values
 pub states_same : {S : Type 0} (m n : HashMap ObjectId ObjectState S) → ((q : ObjectId) → get same_object n q ≡ get same_object m q) → states_of n ≡ states_of m
@@ -68,41 +64,19 @@ pub states_entered : {S : Type 0} (m n : HashMap ObjectId ObjectState S) (o : Ob
     ((p : ObjectId) → get same_object n p ≡ cond (same_object o p) (Some x) (get same_object m p)) → states_of n ≡ entered (states_of m) q x
 states_entered m n o x q e puts = subst (λ (r : Option ObjectId). states_of n ≡ entered (states_of m) r x) (sym e) (states_put m n o (Some x) puts)
 
--- a write of one object
-pub written_other : (state : ObjectId → Option ObjectState) (q : Option ObjectId) (f : ObjectState → ObjectState) (p : ObjectId) → q ≢ Some p → written state q f p ≡ state p
-written_other state None f p apart = refl
-written_other state (Some o) f p apart = by (state o)
-  where
-    by : (x : Option ObjectState) → write_at state o f x p ≡ state p
-    by None = refl
-    by (Some s) = at_object_other o p (Some (f s)) state (λ e. apart (ap Some (sym e)))
+-- a write of one object, where it is known
+abbrev pub stored_at : Option ObjectId → ObjectId → Bool
+stored_at q o = option_eq same_object q (Some o)
 
-pub written_same : (state : ObjectId → Option ObjectState) (q : Option ObjectId) (f : ObjectState → ObjectState) (o : ObjectId) (s : ObjectState) → q ≡ Some o → state o ≡ Some s → written state q f o ≡ Some (f s)
-written_same state None f o s e is = absurd (none_some o e)
-written_same state (Some p) f o s e is =
-    let same = some_is p o e in
-    let was : state p ≡ Some s = ap state same ∙ is in
-    subst (λ (x : Option ObjectState). write_at state p f x o ≡ Some (f s)) (sym was)
-    (ap (at_object p (Some (f s)) state) (sym same) ∙ at_object_same p (Some (f s)) state)
+pub at_tells : (q : Option ObjectId) (o : ObjectId) → Tells (stored_at q o) q (Some o)
+at_tells q o = grind (arith, object_tells)
 
--- what the write does not change
-pub written_keeps : {X : Type 0} (view : Option ObjectState → X) (state : ObjectId → Option ObjectState) (q : Option ObjectId) (f : ObjectState → ObjectState) →
-    ((s : ObjectState) → view (Some (f s)) ≡ view (Some s)) → (p : ObjectId) → view (written state q f p) ≡ view (state p)
-written_keeps view state None f keeps p = refl
-written_keeps view state (Some o) f keeps p = by (state o) refl
-  where
-    by : (x : Option ObjectState) → state o ≡ x → view (write_at state o f x p) ≡ view (state p)
-    by None is = refl
-    by (Some s) is = at_key (decide p o)
-      where
-        at_key : (p ≡ o) ⊎ (p ≢ o) → view (at_object o (Some (f s)) state p) ≡ view (state p)
-        at_key (inl e) = ap view (ap (at_object o (Some (f s)) state) e ∙ at_object_same o (Some (f s)) state) ∙ keeps s ∙ ap view (sym is ∙ ap state (sym e))
-        at_key (inr n) = ap view (at_object_other o p (Some (f s)) state n)
+pub written_is : (state : ObjectId → Option ObjectState) (q : Option ObjectId) (f : ObjectState → ObjectState) (o : ObjectId) → written state q f o ≡ option_map (λ t. cond (stored_at q o) (f t) t) (state o)
+written_is state None f o = grind arith
+written_is state (Some p) f o = grind (arith, decide o p, at_tells (Some p) o, at_object_same, at_object_other)
 
 pub entered_same : (state : ObjectId → Option ObjectState) (q : Option ObjectId) (x : ObjectState) (o : ObjectId) → q ≡ Some o → entered state q x o ≡ Some x
-entered_same state None x o e = absurd (none_some o e)
-entered_same state (Some p) x o e = ap (at_object p (Some x) state) (sym (some_is p o e)) ∙ at_object_same p (Some x) state
+entered_same state q x o e = grind (arith, none_some, some_is, at_object_same)
 
 pub entered_other : (state : ObjectId → Option ObjectState) (q : Option ObjectId) (x : ObjectState) (o : ObjectId) → q ≢ Some o → entered state q x o ≡ state o
-entered_other state None x o apart = refl
-entered_other state (Some p) x o apart = at_object_other p o (Some x) state (λ e. apart (ap Some (sym e)))
+entered_other state q x o apart = grind (arith, at_object_other)

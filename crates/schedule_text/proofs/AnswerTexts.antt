@@ -1,11 +1,11 @@
 -- A line of answers is read exactly.
-use Rattle.schedule_text.proofs.Cited.{◌≡◌, ℕ, Bool, true, false, cond, List, [], ◌∷◌, ◌++◌, Some, None, Err, refl, sym, ap, subst, ◌∙◌, append_assoc, inl, inr, codes, ◌==◌, ◌||◌, decimal, eqb-true, append-nil, Event, Open, Close, First, Next, Touch, Push, Replace, Cut, Retire, Queue, Run, Ask, Answer, Bar, Clear, text_of}
+use Rattle.schedule_text.proofs.Cited.{arith, ◌≡◌, ℕ, Bool, true, false, cond, List, [], ◌∷◌, ◌++◌, Some, None, Err, refl, sym, ap, subst, ◌∙◌, append_assoc, inl, inr, codes, ◌==◌, decimal, eqb-true, append-nil, Event, text_of}
 use Rattle.schedule_text.specs.declared.answer_line.AnswerLine.{AnswerLine}
 use Rattle.schedule_text.specs.declared.answer_line.AnswerLine.TheVariants as line
-use Rattle.schedule_text.specs.Reading.{◌>>=◌, is_end, word_from, word_on, word_at}
+use Rattle.schedule_text.specs.Reading.{is_end, word_from, word_on}
 use Rattle.schedule_text.specs.Grammar.{done}
 use Rattle.schedule_text.specs.AnswerLines.{IsEvent, IsAnswerLine, spelled, AnswerLineText}
-use Rattle.schedule_text.specs.AnswerGrammar.{event_words_of, answer_words_of, waiting_word, run_word, event_word_at, answer_word_at, byte_at, long_at, event_rest, second_at, events_at, end_at, refused_at, whole_line, answer_rest, answer_line_at}
+use Rattle.schedule_text.specs.AnswerGrammar.{event_words_of, answer_words_of, waiting_word, run_word, event_word_at, answer_word_at, second_at, events_at, end_at, refused_at, whole_line, answer_rest, answer_line_at}
 use Rattle.schedule_text.specs.declared.answer_words.SectionWord.TheVariants as section_words
 use Rattle.schedule_text.specs.declared.answer_words.ReadingWord.TheVariants as reading_words
 use Rattle.schedule_text.specs.declared.answer_words.ChainWord.TheVariants as chain_words
@@ -20,10 +20,10 @@ use Rattle.schedule_text.specs.declared.answer_words.WholeWord.TheVariants as wh
 use Rattle.schedule_text.proofs.Exact.{Reads, Done, Then}
 use Rattle.schedule_text.proofs.Tables.{InTable}
 use Rattle.schedule_text.proofs.Numbers.{is_that}
-use Rattle.schedule_text.proofs.Langs.{Lang, then_lang, done_lang, table_lang, as_lang}
+use Rattle.schedule_text.proofs.Langs.{Lang, read_then, done_lang, table_lang, as_lang}
 use Rattle.schedule_text.proofs.Verbs.{EachRow, each_row}
 use Rattle.schedule_text.proofs.EventPieces.{MayEnd, may_end, ByteText, byte_lang, LongText, long_lang}
-use Rattle.schedule_text.proofs.Events.{EventRest, event_rest_lang, EventRow, event_rows, word_of, word_text, word_there, event_unspelled}
+use Rattle.schedule_text.proofs.Events.{space, EventEnd, EventRest, event_rest_lang, EventRow, event_rows, word_of, word_text, word_there, event_unspelled}
 
 -- ---- one event, or two
 
@@ -32,12 +32,6 @@ joined = may_end 10 59 refl refl
 
 whole : MayEnd 10 10
 whole = may_end 10 10 refl refl
-
-space : MayEnd 32 32
-space = may_end 32 32 refl refl
-
-abbrev EventEnd : Type 0
-EventEnd = Event × ℕ
 
 abbrev both : Event → EventEnd → AnswerLine
 both first e = line.Events first (Some e.0)
@@ -61,12 +55,7 @@ event_word_lang = table_lang event_words_of refl (event_words.Section section_wo
 
 second_lang : (first : Event) → Lang (SecondText first) (second_at first)
 unfolding second_at
-second_lang first =
-    then_lang (ByteText 32 32) (λ m. Then (InTable event_words_of) (λ w. Then (EventRest 10 w) (λ e. Done (both first e)))) (byte_at 32 32) (λ m t. event_word_at t >>= λ w. event_rest w.0 10 w.1 >>= λ e. done (both first e.0) e.1)
-    (byte_lang 32 32 refl)
-    (λ m. then_lang (InTable event_words_of) (λ w. Then (EventRest 10 w) (λ e. Done (both first e))) event_word_at (λ w t. event_rest w 10 t >>= λ e. done (both first e.0) e.1)
-    event_word_lang
-    (λ w. then_lang (EventRest 10 w) (λ e. Done (both first e)) (event_rest w 10) (λ e. done (both first e)) (event_rest_lang 10 whole w) (λ e. done_lang (both first e))))
+second_lang first = read_then _ (byte_lang 32 32 refl) (λ m. read_then _ event_word_lang (λ w. read_then _ (event_rest_lang 10 whole w) (λ e. done_lang (both first e))))
 
 after_lang : (first : Event) (b : Bool) → Lang (AfterFirst first b) (λ t. cond b (done (one first) t) (second_at first t))
 after_lang first true = done_lang (one first)
@@ -74,7 +63,7 @@ after_lang first false = second_lang first
 
 events_lang : (w : EventWord) → Lang (EventsText w) (events_at w)
 unfolding events_at
-events_lang w = then_lang (EventRest 59 w) (λ e. AfterFirst e.0 (e.1 == 10)) (event_rest w 59) (λ e t. cond (e.1 == 10) (done (one e.0) t) (second_at e.0 t)) (event_rest_lang 59 joined w) (λ e. after_lang e.0 (e.1 == 10))
+events_lang w = read_then _ (event_rest_lang 59 joined w) (λ e. after_lang e.0 (e.1 == 10))
 
 -- ---- the end line, and refusals
 
@@ -87,27 +76,18 @@ RunsText o w = Then (InTable run_word) (λ k. Then (LongText 10 10) (λ r. Done 
 abbrev EndText : AnswerLine → List ℕ → Type 0
 EndText = Then (LongText 32 32) (λ o. Then (InTable waiting_word) (λ m. Then (LongText 32 32) (λ w. RunsText o w)))
 
-runs_lang : (o w : ℕ × ℕ) → Lang (RunsText o w) (λ t. word_at run_word t >>= λ k. long_at 10 10 k.1 >>= λ r. done (counted o w r.0) r.1)
-runs_lang o w =
-    then_lang (InTable run_word) (λ k. Then (LongText 10 10) (λ r. Done (counted o w r))) (word_at run_word) (λ k t. long_at 10 10 t >>= λ r. done (counted o w r.0) r.1)
-    (table_lang run_word refl (tt, codes "run=", inl (refl, refl)))
-    (λ k. then_lang (LongText 10 10) (λ r. Done (counted o w r)) (long_at 10 10) (λ r. done (counted o w r)) (long_lang 10 10 whole) (λ r. done_lang (counted o w r)))
-
 end_lang : Lang EndText end_at
 unfolding end_at
 end_lang =
-    then_lang (LongText 32 32) (λ o. Then (InTable waiting_word) (λ m. Then (LongText 32 32) (λ w. RunsText o w))) (long_at 32 32) (λ o t. word_at waiting_word t >>= λ m. long_at 32 32 m.1 >>= λ w. word_at run_word w.1 >>= λ k. long_at 10 10 k.1 >>= λ r. done (counted o w.0 r.0) r.1)
-    (long_lang 32 32 space)
-    (λ o. then_lang (InTable waiting_word) (λ m. Then (LongText 32 32) (λ w. RunsText o w)) (word_at waiting_word) (λ m t. long_at 32 32 t >>= λ w. word_at run_word w.1 >>= λ k. long_at 10 10 k.1 >>= λ r. done (counted o w.0 r.0) r.1)
-    (table_lang waiting_word refl (tt, codes "waiting=", inl (refl, refl)))
-    (λ m. then_lang (LongText 32 32) (λ w. RunsText o w) (long_at 32 32) (λ w t. word_at run_word t >>= λ k. long_at 10 10 k.1 >>= λ r. done (counted o w r.0) r.1) (long_lang 32 32 space) (λ w. runs_lang o w)))
+    read_then _ (long_lang 32 32 space) (λ o. read_then _ (table_lang waiting_word refl (tt, codes "waiting=", inl (refl, refl))) (λ m. read_then _ (long_lang 32 32 space) (λ w.
+    read_then _ (table_lang run_word refl (tt, codes "run=", inl (refl, refl))) (λ k. read_then _ (long_lang 10 10 whole) (λ r. done_lang (counted o w r))))))
 
 abbrev refusal : ℕ × ℕ → AnswerLine
 refusal n = line.Refused n.0
 
 refused_lang : Lang (Then (LongText 10 10) (λ n. Done (refusal n))) refused_at
 unfolding refused_at
-refused_lang = then_lang (LongText 10 10) (λ n. Done (refusal n)) (long_at 10 10) (λ n. done (refusal n)) (long_lang 10 10 whole) (λ n. done_lang (refusal n))
+refused_lang = read_then _ (long_lang 10 10 whole) (λ n. done_lang (refusal n))
 
 -- ---- lines
 
@@ -126,10 +106,6 @@ answer_rest_lang answer_words.End = end_lang
 abbrev answer_row : List ℕ → AnswerWord → Type 0
 answer_row w k = (l : AnswerLine) (u : List ℕ) → AnswerRest k l u → AnswerLineText l (w ++ u)
 
-or_false : (a b : Bool) → (a || b) ≡ true → a ≡ false → b ≡ true
-or_false true b e f = absurd (cc)
-or_false false b e f = e
-
 shape_two : (t e s v f : List ℕ) → (t ++ e) ++ (s ++ (v ++ f)) ≡ t ++ (e ++ s) ++ v ++ f
 shape_two t e s v f = simp append_assoc
 
@@ -141,24 +117,19 @@ after_first first true l rest e is end a =
 after_first first false l rest e is end a =
     let w = a.4 in let x = w.4 in
     let t = each_row (EventRow 10) event_words_of w.0 w.1 (event_rows 10) w.3 x.0 x.1 x.3 in
-    let semicolon : first.1 ≡ 59 = eqb-true first.1 59 (or_false (first.1 == 10) (first.1 == 59) end e) in
+    let semicolon : first.1 ≡ 59 = eqb-true first.1 59 (grind (arith, end, e)) in
     let written : w.1 ++ x.1 ≡ text_of x.0.0 ++ codes "\n" = t.2 ∙ ap (λ (n : ℕ). text_of x.0.0 ++ n ∷ []) (is_that 10 x.0.1 t.1) in
     subst (λ (k : AnswerLine). AnswerLineText k ((text_of first.0 ++ first.1 ∷ []) ++ rest)) x.4.0
     ((is, t.0), rw (a.5, a.3.1, is_that 32 a.0 a.3.0, w.5, x.5, x.4.1, append-nil x.1, written, semicolon) (shape_two (text_of first.0) (59 ∷ []) (32 ∷ []) (text_of x.0.0) (codes "\n")))
 
 event_line_row : (w : List ℕ) (k : EventWord) → InTable event_words_of k w → answer_row w (answer_words.Event k)
-event_line_row w k i l u s =
-    let t = each_row (EventRow 59) event_words_of k w (event_rows 59) i s.0 s.1 s.3 in
-    subst (AnswerLineText l) (ap (λ (v : List ℕ). v ++ s.2) (sym t.2) ∙ append_assoc w s.1 s.2 ∙ ap (λ (v : List ℕ). w ++ v) (sym s.5))
-    (after_first s.0 (s.0.1 == 10) l s.2 refl t.0 t.1 s.4)
+event_line_row w k i l u s = grind (arith, each_row, event_rows, append_assoc, after_first)
 
 whole_row : (w : WholeWord) → IsAnswerLine (whole_line w) → answer_row (spelled (whole_line w)) (answer_words.Whole w)
 whole_row w is m u s = (subst IsAnswerLine s.0 is, rw s.1 (append-nil (spelled (whole_line w))) ∙ ap spelled s.0)
 
 refused_row : answer_row (codes "refused E") answer_words.Refused
-refused_row l u s =
-    subst (λ (k : AnswerLine). AnswerLineText k (codes "refused E" ++ u)) s.4.0
-    (s.3.0, rw (s.5, s.4.1, append-nil s.1, s.3.2, is_that 10 s.0.1 s.3.1) (sym (append_assoc (codes "refused E") (decimal s.0.0) (10 ∷ []))))
+refused_row l u s = grind (arith, append-nil, is_that, append_assoc)
 
 shape_end : (e o s m w r k n : List ℕ) → e ++ ((o ++ s) ++ (m ++ ((w ++ s) ++ (r ++ (k ++ n))))) ≡ e ++ o ++ (s ++ m) ++ w ++ (s ++ r) ++ k ++ n
 shape_end e o s m w r k n = simp append_assoc
@@ -182,21 +153,7 @@ line_spelled : (l : AnswerLine) (text : List ℕ) → Then (InTable answer_words
 line_spelled l text s = subst (AnswerLineText l) (sym s.5) (each_row answer_row answer_words_of s.0 s.1 answer_rows s.3 l s.2 s.4)
 
 event_there : (e : Event) → InTable answer_words_of (answer_words.Event (word_of e)) (word_text e)
-event_there (Open s) = inr (inl (refl, refl))
-event_there (Close s) = inr (inr (inl (refl, refl)))
-event_there (First s c f) = inr (inr (inr (inl (refl, refl))))
-event_there (Next s o f) = inr (inr (inr (inr (inl (refl, refl)))))
-event_there (Touch s o) = inr (inr (inr (inr (inr (inl (refl, refl))))))
-event_there (Push c o) = inr (inr (inr (inr (inr (inr (inl (refl, refl)))))))
-event_there (Replace c old new) = inr (inr (inr (inr (inr (inr (inr (inl (refl, refl))))))))
-event_there (Cut c o) = inr (inr (inr (inr (inr (inr (inr (inr (inl (refl, refl)))))))))
-event_there (Retire o) = inr (inr (inr (inr (inr (inr (inr (inr (inr (inl (refl, refl))))))))))
-event_there (Queue o q) = inr (inr (inr (inr (inr (inr (inr (inr (inr (inr (inl (refl, refl)))))))))))
-event_there (Run o) = inr (inr (inr (inr (inr (inr (inr (inr (inr (inr (inr (inl (refl, refl))))))))))))
-event_there (Ask n) = inr (inr (inr (inr (inr (inr (inr (inr (inr (inr (inr (inr (inl (refl, refl)))))))))))))
-event_there (Answer n) = inr (inr (inr (inr (inr (inr (inr (inr (inr (inr (inr (inr (inr (inl (refl, refl))))))))))))))
-event_there (Bar n) = inr (inr (inr (inr (inr (inr (inr (inr (inr (inr (inr (inr (inr (inr (inl (refl, refl)))))))))))))))
-event_there (Clear n) = inr (inr (inr (inr (inr (inr (inr (inr (inr (inr (inr (inr (inr (inr (inr (inl (refl, refl))))))))))))))))
+event_there e = grind arith
 
 line_unspelled : (l : AnswerLine) (text : List ℕ) → AnswerLineText l text → Then (InTable answer_words_of) AnswerRest l text
 line_unspelled (line.Events first None) text s =
@@ -205,21 +162,10 @@ line_unspelled (line.Events first None) text s =
 line_unspelled (line.Events first (Some second)) text s =
     let f = event_unspelled 59 first 59 s.0.0 refl in
     let g = event_unspelled 10 second 10 s.0.1 refl in
-    let rest = 32 ∷ (word_text second ++ g.0) in (
-      answer_words.Event (word_of first),
-      word_text first,
-      f.0 ++ rest,
-      event_there first,
-      (
-        (first, 59),
-        f.0,
-        rest,
-        f.1,
-        (32, 32 ∷ [], word_text second ++ g.0, (refl, refl), (word_of second, word_text second, g.0, word_there second, ((second, 10), g.0, [], g.1, (refl, refl), sym (append-nil g.0)), refl), refl),
-        refl,
-      ),
-      s.1 ∙ sym (shape_two (text_of first) (59 ∷ []) (32 ∷ []) (text_of second) (10 ∷ [])) ∙ rw (g.2, f.2) (append_assoc (word_text first) f.0 rest),
-    )
+    let rest = 32 ∷ (word_text second ++ g.0) in
+    let two : SecondText first (line.Events first (Some second)) rest = (32, 32 ∷ [], word_text second ++ g.0, (refl, refl), (word_of second, word_text second, g.0, word_there second, ((second, 10), g.0, [], g.1, (refl, refl), sym (append-nil g.0)), refl), refl) in
+    let same = s.1 ∙ sym (shape_two (text_of first) (59 ∷ []) (32 ∷ []) (text_of second) (10 ∷ [])) ∙ rw (g.2, f.2) (append_assoc (word_text first) f.0 rest) in
+    (answer_words.Event (word_of first), word_text first, f.0 ++ rest, event_there first, ((first, 59), f.0, rest, f.1, two, refl), same)
 line_unspelled line.Quiet text s = (answer_words.Whole whole_words.Quiet, codes ".\n", [], inl (refl, refl), (refl, refl), s.1)
 line_unspelled line.Wait text s = (answer_words.Whole whole_words.Wait, codes "wait\n", [], inr (inr (inr (inr (inr (inr (inr (inr (inr (inr (inr (inr (inr (inr (inr (inr (inl (refl, refl))))))))))))))))), (refl, refl), s.1)
 line_unspelled line.Blocked text s = (answer_words.Whole whole_words.Blocked, codes "blocked\n", [], inr (inr (inr (inr (inr (inr (inr (inr (inr (inr (inr (inr (inr (inr (inr (inr (inr (inl (refl, refl)))))))))))))))))), (refl, refl), s.1)
@@ -232,28 +178,12 @@ line_unspelled (line.End c) text s =
     let k = codes "run=" ++ r in
     let w = (decimal c.waiting ++ 32 ∷ []) ++ k in
     let m = codes "waiting=" ++ w in
-    let o = (decimal c.sections ++ 32 ∷ []) ++ m in (
-      answer_words.End,
-      codes "end open=",
-      o,
-      inr (inr (inr (inr (inr (inr (inr (inr (inr (inr (inr (inr (inr (inr (inr (inr (inr (inr (inr (inr (inl (refl, refl))))))))))))))))))))),
-      (
-        (c.sections, 32),
-        decimal c.sections ++ 32 ∷ [],
-        m,
-        (s.0.0, refl, refl),
-        (
-          tt,
-          codes "waiting=",
-          w,
-          inl (refl, refl),
-          ((c.waiting, 32), decimal c.waiting ++ 32 ∷ [], k, (s.0.1, refl, refl), (tt, codes "run=", r, inl (refl, refl), ((c.runs, 10), r, [], (s.0.2, refl, refl), (refl, refl), sym (append-nil r)), refl), refl),
-          refl,
-        ),
-        refl,
-      ),
-      s.1 ∙ sym (shape_end (codes "end open=") (decimal c.sections) (codes " ") (codes "waiting=") (decimal c.waiting) (codes "run=") (decimal c.runs) (codes "\n")),
-    )
+    let o = (decimal c.sections ++ 32 ∷ []) ++ m in
+    let runs : RunsText (c.sections, 32) (c.waiting, 32) (line.End c) k = (tt, codes "run=", r, inl (refl, refl), ((c.runs, 10), r, [], (s.0.2, refl, refl), (refl, refl), sym (append-nil r)), refl) in
+    let waiting : Then (LongText 32 32) (λ w. RunsText (c.sections, 32) w) (line.End c) w = ((c.waiting, 32), decimal c.waiting ++ 32 ∷ [], k, (s.0.1, refl, refl), runs, refl) in
+    let all : EndText (line.End c) o = ((c.sections, 32), decimal c.sections ++ 32 ∷ [], m, (s.0.0, refl, refl), (tt, codes "waiting=", w, inl (refl, refl), waiting, refl), refl) in
+    let same = s.1 ∙ sym (shape_end (codes "end open=") (decimal c.sections) (codes " ") (codes "waiting=") (decimal c.waiting) (codes "run=") (decimal c.runs) (codes "\n")) in
+    (answer_words.End, codes "end open=", o, grind arith, all, same)
 
 answer_word_lang : Lang (InTable answer_words_of) answer_word_at
 unfolding answer_word_at
@@ -261,7 +191,7 @@ answer_word_lang = table_lang answer_words_of refl (answer_words.Refused, codes 
 
 pub answer_reads : Reads AnswerLineText answer_line_at
 unfolding answer_line_at
-answer_reads = (as_lang (then_lang (InTable answer_words_of) AnswerRest answer_word_at answer_rest answer_word_lang answer_rest_lang) line_spelled line_unspelled).reads
+answer_reads = (as_lang (read_then _ answer_word_lang answer_rest_lang) line_spelled line_unspelled).reads
 
 -- no bytes are a beginning that goes on
 pub no_answer : answer_line_at [] ≡ Err []

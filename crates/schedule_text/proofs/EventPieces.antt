@@ -1,7 +1,7 @@
 -- The pieces of an event's text are read exactly: what stands before a byte that may end it, and that byte.
-use Rattle.schedule_text.proofs.Cited.{◌≡◌, ℕ, Bool, true, false, List, [], ◌∷◌, ◌++◌, Option, Some, None, Ok, Err, ◌⊎◌, refl, sym, ap, subst, ◌∙◌, append_assoc, inl, inr, lit<, lit≤, codes, ◌==◌, ◌||◌, decimal, is_ascii_digit, eqb-true, eq-eqb, append-nil, SectionId, ObjectId, object_text, found_text}
-use Rattle.schedule_text.specs.Reading.{◌>>=◌, is_end, word_at, number_at}
-use Rattle.schedule_text.specs.Grammar.{done, object}
+use Rattle.schedule_text.proofs.Cited.{arith, ◌≡◌, ℕ, true, false, List, [], ◌∷◌, ◌++◌, Option, Some, None, Ok, Err, refl, sym, ap, subst, ◌∙◌, append_assoc, inl, inr, lit<, lit≤, codes, decimal, is_ascii_digit, eqb-true, eq-eqb, append-nil, SectionId, ObjectId, object_text, found_text}
+use Rattle.schedule_text.specs.Reading.{is_end}
+use Rattle.schedule_text.specs.Grammar.{object}
 use Rattle.schedule_text.specs.Spelling.{IsNumber}
 use Rattle.schedule_text.specs.AnswerLines.{IsLong, IsSection, IsFound}
 use Rattle.schedule_text.specs.AnswerGrammar.{found_words_of, byte_at, long_at, short_at, object_at, marked_object_at, section_at, found_rest, found_at}
@@ -9,9 +9,9 @@ use Rattle.schedule_text.specs.declared.answer_words.FoundWord.{FoundWord}
 use Rattle.schedule_text.specs.declared.answer_words.FoundWord.TheVariants as found_words
 use Rattle.schedule_text.proofs.Exact.{Fault, Found, Done, Then, ok, err, ok_is, err_is}
 use Rattle.schedule_text.proofs.Tables.{InTable, chosen}
-use Rattle.schedule_text.proofs.Numbers.{NoDigit, NumberText, ended_reads, is_that}
+use Rattle.schedule_text.proofs.Numbers.{NoDigit, ended_reads, is_that}
 use Rattle.schedule_text.proofs.Verbs.{EachRow, each_row}
-use Rattle.schedule_text.proofs.Langs.{Lang, then_lang, done_lang, number_lang, table_lang, as_lang}
+use Rattle.schedule_text.proofs.Langs.{Lang, read_then, done_lang, number_lang, table_lang, as_lang}
 
 -- ---- what is written, and a byte that ends it
 
@@ -23,25 +23,8 @@ pub record MayEnd (end other : ℕ) : Type 0 where
   pub no_digit : NoDigit end other
   pub some : is_end end other end ≡ true
 
-or_cases : (a b : Bool) → (a || b) ≡ true → ((a ≡ true) × (b ≡ b)) ⊎ (b ≡ true)
-or_cases true b e = inl (refl, refl)
-or_cases false b e = inr e
-
-end_cases : (end other e : ℕ) → is_end end other e ≡ true → (e ≡ end) ⊎ (e ≡ other)
-end_cases end other e is =
-    elim (or_cases (e == end) (e == other) is) [
-      | inl h ↦ inl (eqb-true e end h.0)
-      | inr h ↦ inr (eqb-true e other h)
-    ]
-
 pub may_end : (end other : ℕ) → is_ascii_digit end ≡ false → is_ascii_digit other ≡ false → MayEnd end other
-may_end end other first second = record {
-  no_digit = λ e is. elim (end_cases end other e is) [
-    | inl h ↦ ap is_ascii_digit h ∙ first
-    | inr h ↦ ap is_ascii_digit h ∙ second
-  ];
-  some = rw (eq-eqb end end refl) refl;
-}
+may_end end other first second = grind (arith, eqb-true, eq-eqb)
 
 -- ---- one byte
 
@@ -136,14 +119,14 @@ as_object p = (object p.0, p.1)
 pub object_lang : (end other : ℕ) → MayEnd end other → Lang (ObjectText end other) (object_at end other)
 unfolding object_at
 object_lang end other may =
-    as_lang (then_lang (LongText end other) (λ p. Done (as_object p)) (long_at end other) (λ p. done (as_object p)) (long_lang end other may) (λ p. done_lang (as_object p)))
+    as_lang (read_then _ (long_lang end other may) (λ p. done_lang (as_object p)))
     (λ o u s. subst (λ (p : ObjectId × ℕ). ObjectText end other p u) s.4.0 (s.3.0, s.3.1, s.5 ∙ rw s.4.1 (append-nil s.1) ∙ s.3.2))
     (λ o u s. ((o.0.0, o.1), u, [], (s.0, s.1, s.2), (refl, refl), sym (append-nil u)))
 
 pub marked_lang : (end other : ℕ) → MayEnd end other → Lang (MarkedText end other) (marked_object_at end other)
 unfolding marked_object_at
 marked_lang end other may =
-    as_lang (then_lang (ByteText 111 111) (λ m. ObjectText end other) (byte_at 111 111) (λ m. object_at end other) (byte_lang 111 111 refl) (λ m. object_lang end other may))
+    as_lang (read_then _ (byte_lang 111 111 refl) (λ m. object_lang end other may))
     (λ o u s. (s.4.0, s.4.1, s.5 ∙ rw (s.3.1, is_that 111 s.0 s.3.0, s.4.2) refl))
     (λ o u s. (111, 111 ∷ [], number_of o.0 ++ o.1 ∷ [], (refl, refl), (s.0, s.1, refl), s.2))
 
@@ -161,9 +144,7 @@ as_section r p = (record { reader = r; ordinal = p.0 }, p.1)
 pub section_lang : (end other : ℕ) → MayEnd end other → Lang (SectionText end other) (section_at end other)
 unfolding section_at
 section_lang end other may =
-    as_lang
-    (then_lang (NumberText 46) (λ r. Then (LongText end other) (λ p. Done (as_section r p))) (number_at 46) (λ r t. long_at end other t >>= λ o. done (as_section r o.0) o.1) (number_lang 46 refl)
-    (λ r. then_lang (LongText end other) (λ p. Done (as_section r p)) (long_at end other) (λ p. done (as_section r p)) (long_lang end other may) (λ p. done_lang (as_section r p))))
+    as_lang (read_then _ (number_lang 46 refl) (λ r. read_then _ (long_lang end other may) (λ p. done_lang (as_section r p))))
     (λ x u s.
     let l = s.4 in
     subst (λ (p : SectionId × ℕ). SectionText end other p u) l.4.0
@@ -188,17 +169,14 @@ FoundRest other found_words.Object = Then (ObjectText 10 other) (λ o. Done (som
 FoundRest other found_words.Nothing = Then (ByteText 10 other) (λ e. Done (none_found e))
 
 found_rest_lang : (other : ℕ) → MayEnd 10 other → (w : FoundWord) → Lang (FoundRest other w) (found_rest other w)
-found_rest_lang other may found_words.Object = then_lang (ObjectText 10 other) (λ o. Done (some_found o)) (object_at 10 other) (λ o. done (some_found o)) (object_lang 10 other may) (λ o. done_lang (some_found o))
-found_rest_lang other may found_words.Nothing = then_lang (ByteText 10 other) (λ e. Done (none_found e)) (byte_at 10 other) (λ e. done (none_found e)) (byte_lang 10 other may.some) (λ e. done_lang (none_found e))
+found_rest_lang other may found_words.Object = read_then _ (object_lang 10 other may) (λ o. done_lang (some_found o))
+found_rest_lang other may found_words.Nothing = read_then _ (byte_lang 10 other may.some) (λ e. done_lang (none_found e))
 
 abbrev found_row : ℕ → List ℕ → FoundWord → Type 0
 found_row other w k = (x : Option ObjectId × ℕ) (u : List ℕ) → FoundRest other k x u → FoundText other x (w ++ u)
 
 found_rows : (other : ℕ) → EachRow (found_row other) found_words_of
-found_rows other = (
-  λ x u r. subst (λ (p : Option ObjectId × ℕ). FoundText other p (codes "o" ++ u)) r.4.0 (r.3.0, r.3.1, rw (r.5, r.4.1, r.3.2) (simp append-nil)),
-  (λ x u r. subst (λ (p : Option ObjectId × ℕ). FoundText other p (codes "none" ++ u)) r.4.0 (tt, r.3.0, rw (r.5, r.4.1, r.3.1) refl), tt),
-)
+found_rows other = grind (arith, append-nil)
 
 found_spelled : (other : ℕ) (x : Option ObjectId × ℕ) (u : List ℕ) → Then (InTable found_words_of) (FoundRest other) x u → FoundText other x u
 found_spelled other x u s = subst (FoundText other x) (sym s.5) (each_row (found_row other) found_words_of s.0 s.1 (found_rows other) s.3 x s.2 s.4)
@@ -211,6 +189,4 @@ found_unspelled other (Some o, e) u s =
 
 pub found_lang : (other : ℕ) → MayEnd 10 other → Lang (FoundText other) (found_at other)
 unfolding found_at
-found_lang other may =
-    as_lang (then_lang (InTable found_words_of) (FoundRest other) (word_at found_words_of) (found_rest other) (table_lang found_words_of refl (found_words.Object, codes "o", inl (refl, refl))) (found_rest_lang other may))
-    (found_spelled other) (found_unspelled other)
+found_lang other may = as_lang (read_then _ (table_lang found_words_of refl (found_words.Object, codes "o", inl (refl, refl))) (found_rest_lang other may)) (found_spelled other) (found_unspelled other)

@@ -1,9 +1,8 @@
 -- An event and the byte that ends it are read exactly.
-use Rattle.schedule_text.proofs.Cited.{◌≡◌, ℕ, true, List, [], ◌∷◌, ◌++◌, Option, refl, sym, subst, append_assoc, inl, inr, codes, decimal, append-nil, SectionId, ObjectId, Event, Open, Close, First, Next, Touch, Push, Replace, Cut, Retire, Queue, Run, Ask, Answer, Bar, Clear, object_text, found_text, text_of}
-use Rattle.schedule_text.specs.Reading.{◌>>=◌, is_end, number_at}
-use Rattle.schedule_text.specs.Grammar.{done}
+use Rattle.schedule_text.proofs.Cited.{arith, ◌≡◌, ℕ, true, List, [], ◌∷◌, ◌++◌, refl, sym, subst, append_assoc, codes, decimal, append-nil, SectionId, Event, Open, Close, First, Next, Touch, Push, Replace, Cut, Retire, Queue, Run, Ask, Answer, Bar, Clear, object_text, found_text, text_of}
+use Rattle.schedule_text.specs.Reading.{is_end}
 use Rattle.schedule_text.specs.AnswerLines.{IsEvent}
-use Rattle.schedule_text.specs.AnswerGrammar.{event_words_of, byte_at, long_at, short_at, object_at, marked_object_at, section_at, found_at, section_event_of, wait_event_of, section_event_at, first_at, next_at, touch_at, push_at, cut_at, replace_at, queue_at, retire_at, run_at, wait_event_at, event_rest}
+use Rattle.schedule_text.specs.AnswerGrammar.{event_words_of, section_event_of, wait_event_of, section_event_at, first_at, next_at, touch_at, push_at, cut_at, replace_at, queue_at, retire_at, run_at, wait_event_at, event_rest}
 use Rattle.schedule_text.specs.declared.answer_words.SectionWord.{SectionWord}
 use Rattle.schedule_text.specs.declared.answer_words.SectionWord.TheVariants as section_words
 use Rattle.schedule_text.specs.declared.answer_words.ReadingWord.TheVariants as reading_words
@@ -16,154 +15,47 @@ use Rattle.schedule_text.specs.declared.answer_words.EventWord.TheVariants as ev
 use Rattle.schedule_text.proofs.Exact.{Done, Then}
 use Rattle.schedule_text.proofs.Tables.{InTable}
 use Rattle.schedule_text.proofs.Numbers.{NumberText, is_that}
-use Rattle.schedule_text.proofs.Langs.{Lang, then_lang, done_lang, number_lang}
-use Rattle.schedule_text.proofs.Verbs.{EachRow}
+use Rattle.schedule_text.proofs.Langs.{Lang, read_then, done_lang, number_lang}
+use Rattle.schedule_text.proofs.Verbs.{EachRow, ◌&◌}
 use Rattle.schedule_text.proofs.EventPieces.{Ended, MayEnd, may_end, ByteText, byte_lang, LongText, long_lang, ShortText, short_lang, number_of, ObjectText, object_lang, MarkedText, marked_lang, section_tail, SectionText, section_lang, FoundText, found_lang}
 
 -- ---- the languages after each word
 
-space : MayEnd 32 32
+pub space : MayEnd 32 32
 space = may_end 32 32 refl refl
 
-abbrev EventEnd : Type 0
+abbrev pub EventEnd : Type 0
 EventEnd = Event × ℕ
 
-abbrev section_end : SectionWord → SectionId × ℕ → EventEnd
-section_end w s = (section_event_of w s.0, s.1)
-
-abbrev wait_end : WaitWord → ℕ × ℕ → EventEnd
-wait_end w n = (wait_event_of w n.0, n.1)
-
-abbrev first_end : SectionId × ℕ → ℕ → Option ObjectId × ℕ → EventEnd
-first_end s c f = (First s.0 c f.0, f.1)
-
-abbrev next_end : SectionId × ℕ → ObjectId × ℕ → Option ObjectId × ℕ → EventEnd
-next_end s o f = (Next s.0 o.0 f.0, f.1)
-
-abbrev touch_end : SectionId × ℕ → ObjectId × ℕ → EventEnd
-touch_end s o = (Touch s.0 o.0, o.1)
-
-abbrev push_end : ℕ → ObjectId × ℕ → EventEnd
-push_end c o = (Push c o.0, o.1)
-
-abbrev cut_end : ℕ → ObjectId × ℕ → EventEnd
-cut_end c o = (Cut c o.0, o.1)
-
-abbrev replace_end : ℕ → ObjectId × ℕ → ObjectId × ℕ → EventEnd
-replace_end c o n = (Replace c o.0 n.0, n.1)
-
-abbrev retire_end : ObjectId × ℕ → EventEnd
-retire_end o = (Retire o.0, o.1)
-
-abbrev run_end : ObjectId × ℕ → EventEnd
-run_end o = (Run o.0, o.1)
-
-abbrev queue_end : ObjectId × ℕ → ℕ × ℕ → EventEnd
-queue_end o q = (Queue o.0 q.0, q.1)
-
 abbrev pub EventRest : ℕ → EventWord → EventEnd → List ℕ → Type 0
-EventRest other (event_words.Section w) = Then (SectionText 10 other) (λ s. Done (section_end w s))
-EventRest other (event_words.Reading reading_words.First) = Then (SectionText 32 32) (λ s. Then (ByteText 99 99) (λ m. Then (NumberText 32) (λ c. Then (FoundText other) (λ f. Done (first_end s c f)))))
-EventRest other (event_words.Reading reading_words.Next) = Then (SectionText 32 32) (λ s. Then (MarkedText 32 32) (λ o. Then (FoundText other) (λ f. Done (next_end s o f))))
-EventRest other (event_words.Reading reading_words.Touch) = Then (SectionText 32 32) (λ s. Then (MarkedText 10 other) (λ o. Done (touch_end s o)))
-EventRest other (event_words.Chain chain_words.Push) = Then (NumberText 32) (λ c. Then (MarkedText 10 other) (λ o. Done (push_end c o)))
-EventRest other (event_words.Chain chain_words.Replace) = Then (NumberText 32) (λ c. Then (MarkedText 32 32) (λ o. Then (MarkedText 10 other) (λ n. Done (replace_end c o n))))
-EventRest other (event_words.Chain chain_words.Cut) = Then (NumberText 32) (λ c. Then (MarkedText 10 other) (λ o. Done (cut_end c o)))
-EventRest other (event_words.Object object_words.Retire) = Then (ObjectText 10 other) (λ o. Done (retire_end o))
-EventRest other (event_words.Object object_words.Queue) = Then (ObjectText 32 32) (λ o. Then (ByteText 113 113) (λ m. Then (ShortText 10 other) (λ q. Done (queue_end o q))))
-EventRest other (event_words.Object object_words.Run) = Then (ObjectText 10 other) (λ o. Done (run_end o))
-EventRest other (event_words.Wait w) = Then (LongText 10 other) (λ n. Done (wait_end w n))
+EventRest other (event_words.Section w) = Then (SectionText 10 other) (λ s. Done (section_event_of w s.0, s.1))
+EventRest other (event_words.Reading reading_words.First) = Then (SectionText 32 32) (λ s. Then (ByteText 99 99) (λ m. Then (NumberText 32) (λ c. Then (FoundText other) (λ f. Done (First s.0 c f.0, f.1)))))
+EventRest other (event_words.Reading reading_words.Next) = Then (SectionText 32 32) (λ s. Then (MarkedText 32 32) (λ o. Then (FoundText other) (λ f. Done (Next s.0 o.0 f.0, f.1))))
+EventRest other (event_words.Reading reading_words.Touch) = Then (SectionText 32 32) (λ s. Then (MarkedText 10 other) (λ o. Done (Touch s.0 o.0, o.1)))
+EventRest other (event_words.Chain chain_words.Push) = Then (NumberText 32) (λ c. Then (MarkedText 10 other) (λ o. Done (Push c o.0, o.1)))
+EventRest other (event_words.Chain chain_words.Replace) = Then (NumberText 32) (λ c. Then (MarkedText 32 32) (λ o. Then (MarkedText 10 other) (λ n. Done (Replace c o.0 n.0, n.1))))
+EventRest other (event_words.Chain chain_words.Cut) = Then (NumberText 32) (λ c. Then (MarkedText 10 other) (λ o. Done (Cut c o.0, o.1)))
+EventRest other (event_words.Object object_words.Retire) = Then (ObjectText 10 other) (λ o. Done (Retire o.0, o.1))
+EventRest other (event_words.Object object_words.Queue) = Then (ObjectText 32 32) (λ o. Then (ByteText 113 113) (λ m. Then (ShortText 10 other) (λ q. Done (Queue o.0 q.0, q.1))))
+EventRest other (event_words.Object object_words.Run) = Then (ObjectText 10 other) (λ o. Done (Run o.0, o.1))
+EventRest other (event_words.Wait w) = Then (LongText 10 other) (λ n. Done (wait_event_of w n.0, n.1))
 
 -- ---- what is read after each word
 
-first_lang : (other : ℕ) → MayEnd 10 other → Lang (EventRest other (event_words.Reading reading_words.First)) (first_at other)
-unfolding first_at
-first_lang other may =
-    then_lang (SectionText 32 32) (λ s. Then (ByteText 99 99) (λ m. Then (NumberText 32) (λ c. Then (FoundText other) (λ f. Done (first_end s c f))))) (section_at 32 32) (λ s t. byte_at 99 99 t >>= λ m. number_at 32 m.1 >>= λ c. found_at other c.1 >>= λ f. done (first_end s c.0 f.0) f.1)
-    (section_lang 32 32 space)
-    (λ s. then_lang (ByteText 99 99) (λ m. Then (NumberText 32) (λ c. Then (FoundText other) (λ f. Done (first_end s c f)))) (byte_at 99 99) (λ m t. number_at 32 t >>= λ c. found_at other c.1 >>= λ f. done (first_end s c.0 f.0) f.1)
-    (byte_lang 99 99 refl)
-    (λ m. then_lang (NumberText 32) (λ c. Then (FoundText other) (λ f. Done (first_end s c f))) (number_at 32) (λ c t. found_at other t >>= λ f. done (first_end s c f.0) f.1)
-    (number_lang 32 refl)
-    (λ c. then_lang (FoundText other) (λ f. Done (first_end s c f)) (found_at other) (λ f. done (first_end s c f)) (found_lang other may) (λ f. done_lang (first_end s c f)))))
-
-next_lang : (other : ℕ) → MayEnd 10 other → Lang (EventRest other (event_words.Reading reading_words.Next)) (next_at other)
-unfolding next_at
-next_lang other may =
-    then_lang (SectionText 32 32) (λ s. Then (MarkedText 32 32) (λ o. Then (FoundText other) (λ f. Done (next_end s o f)))) (section_at 32 32) (λ s t. marked_object_at 32 32 t >>= λ o. found_at other o.1 >>= λ f. done (next_end s o.0 f.0) f.1)
-    (section_lang 32 32 space)
-    (λ s. then_lang (MarkedText 32 32) (λ o. Then (FoundText other) (λ f. Done (next_end s o f))) (marked_object_at 32 32) (λ o t. found_at other t >>= λ f. done (next_end s o f.0) f.1)
-    (marked_lang 32 32 space)
-    (λ o. then_lang (FoundText other) (λ f. Done (next_end s o f)) (found_at other) (λ f. done (next_end s o f)) (found_lang other may) (λ f. done_lang (next_end s o f))))
-
-touch_lang : (other : ℕ) → MayEnd 10 other → Lang (EventRest other (event_words.Reading reading_words.Touch)) (touch_at other)
-unfolding touch_at
-touch_lang other may =
-    then_lang (SectionText 32 32) (λ s. Then (MarkedText 10 other) (λ o. Done (touch_end s o))) (section_at 32 32) (λ s t. marked_object_at 10 other t >>= λ o. done (touch_end s o.0) o.1)
-    (section_lang 32 32 space)
-    (λ s. then_lang (MarkedText 10 other) (λ o. Done (touch_end s o)) (marked_object_at 10 other) (λ o. done (touch_end s o)) (marked_lang 10 other may) (λ o. done_lang (touch_end s o)))
-
-in_chain_lang : (other : ℕ) → MayEnd 10 other → (make : ℕ → ObjectId × ℕ → EventEnd) → Lang (Then (NumberText 32) (λ c. Then (MarkedText 10 other) (λ o. Done (make c o)))) (λ t. number_at 32 t >>= λ c. marked_object_at 10 other c.1 >>= λ o. done (make c.0 o.0) o.1)
-in_chain_lang other may make =
-    then_lang (NumberText 32) (λ c. Then (MarkedText 10 other) (λ o. Done (make c o))) (number_at 32) (λ c t. marked_object_at 10 other t >>= λ o. done (make c o.0) o.1)
-    (number_lang 32 refl)
-    (λ c. then_lang (MarkedText 10 other) (λ o. Done (make c o)) (marked_object_at 10 other) (λ o. done (make c o)) (marked_lang 10 other may) (λ o. done_lang (make c o)))
-
-push_lang : (other : ℕ) → MayEnd 10 other → Lang (EventRest other (event_words.Chain chain_words.Push)) (push_at other)
-unfolding push_at
-push_lang other may = in_chain_lang other may push_end
-
-cut_lang : (other : ℕ) → MayEnd 10 other → Lang (EventRest other (event_words.Chain chain_words.Cut)) (cut_at other)
-unfolding cut_at
-cut_lang other may = in_chain_lang other may cut_end
-
-replace_lang : (other : ℕ) → MayEnd 10 other → Lang (EventRest other (event_words.Chain chain_words.Replace)) (replace_at other)
-unfolding replace_at
-replace_lang other may =
-    then_lang (NumberText 32) (λ c. Then (MarkedText 32 32) (λ o. Then (MarkedText 10 other) (λ n. Done (replace_end c o n)))) (number_at 32) (λ c t. marked_object_at 32 32 t >>= λ o. marked_object_at 10 other o.1 >>= λ n. done (replace_end c o.0 n.0) n.1)
-    (number_lang 32 refl)
-    (λ c. then_lang (MarkedText 32 32) (λ o. Then (MarkedText 10 other) (λ n. Done (replace_end c o n))) (marked_object_at 32 32) (λ o t. marked_object_at 10 other t >>= λ n. done (replace_end c o n.0) n.1)
-    (marked_lang 32 32 space)
-    (λ o. then_lang (MarkedText 10 other) (λ n. Done (replace_end c o n)) (marked_object_at 10 other) (λ n. done (replace_end c o n)) (marked_lang 10 other may) (λ n. done_lang (replace_end c o n))))
-
-retire_lang : (other : ℕ) → MayEnd 10 other → Lang (EventRest other (event_words.Object object_words.Retire)) (retire_at other)
-unfolding retire_at
-retire_lang other may = then_lang (ObjectText 10 other) (λ o. Done (retire_end o)) (object_at 10 other) (λ o. done (retire_end o)) (object_lang 10 other may) (λ o. done_lang (retire_end o))
-
-run_lang : (other : ℕ) → MayEnd 10 other → Lang (EventRest other (event_words.Object object_words.Run)) (run_at other)
-unfolding run_at
-run_lang other may = then_lang (ObjectText 10 other) (λ o. Done (run_end o)) (object_at 10 other) (λ o. done (run_end o)) (object_lang 10 other may) (λ o. done_lang (run_end o))
-
-queue_lang : (other : ℕ) → MayEnd 10 other → Lang (EventRest other (event_words.Object object_words.Queue)) (queue_at other)
-unfolding queue_at
-queue_lang other may =
-    then_lang (ObjectText 32 32) (λ o. Then (ByteText 113 113) (λ m. Then (ShortText 10 other) (λ q. Done (queue_end o q)))) (object_at 32 32) (λ o t. byte_at 113 113 t >>= λ m. short_at 10 other m.1 >>= λ q. done (queue_end o q.0) q.1)
-    (object_lang 32 32 space)
-    (λ o. then_lang (ByteText 113 113) (λ m. Then (ShortText 10 other) (λ q. Done (queue_end o q))) (byte_at 113 113) (λ m t. short_at 10 other t >>= λ q. done (queue_end o q.0) q.1)
-    (byte_lang 113 113 refl)
-    (λ m. then_lang (ShortText 10 other) (λ q. Done (queue_end o q)) (short_at 10 other) (λ q. done (queue_end o q)) (short_lang 10 other may) (λ q. done_lang (queue_end o q))))
-
-section_event_lang : (other : ℕ) → MayEnd 10 other → (w : SectionWord) → Lang (EventRest other (event_words.Section w)) (section_event_at w other)
-unfolding section_event_at
-section_event_lang other may w = then_lang (SectionText 10 other) (λ s. Done (section_end w s)) (section_at 10 other) (λ s. done (section_end w s)) (section_lang 10 other may) (λ s. done_lang (section_end w s))
-
-wait_event_lang : (other : ℕ) → MayEnd 10 other → (w : WaitWord) → Lang (EventRest other (event_words.Wait w)) (wait_event_at w other)
-unfolding wait_event_at
-wait_event_lang other may w = then_lang (LongText 10 other) (λ n. Done (wait_end w n)) (long_at 10 other) (λ n. done (wait_end w n)) (long_lang 10 other may) (λ n. done_lang (wait_end w n))
-
 pub event_rest_lang : (other : ℕ) → MayEnd 10 other → (w : EventWord) → Lang (EventRest other w) (event_rest w other)
-unfolding event_rest
-event_rest_lang other may (event_words.Section w) = section_event_lang other may w
-event_rest_lang other may (event_words.Reading reading_words.First) = first_lang other may
-event_rest_lang other may (event_words.Reading reading_words.Next) = next_lang other may
-event_rest_lang other may (event_words.Reading reading_words.Touch) = touch_lang other may
-event_rest_lang other may (event_words.Chain chain_words.Push) = push_lang other may
-event_rest_lang other may (event_words.Chain chain_words.Replace) = replace_lang other may
-event_rest_lang other may (event_words.Chain chain_words.Cut) = cut_lang other may
-event_rest_lang other may (event_words.Object object_words.Retire) = retire_lang other may
-event_rest_lang other may (event_words.Object object_words.Queue) = queue_lang other may
-event_rest_lang other may (event_words.Object object_words.Run) = run_lang other may
-event_rest_lang other may (event_words.Wait w) = wait_event_lang other may w
+unfolding event_rest section_event_at first_at next_at touch_at push_at replace_at cut_at retire_at queue_at run_at wait_event_at
+event_rest_lang other may (event_words.Section w) = read_then _ (section_lang 10 other may) (λ s. done_lang _)
+event_rest_lang other may (event_words.Reading reading_words.First) =
+    read_then _ (section_lang 32 32 space) (λ s. read_then _ (byte_lang 99 99 refl) (λ m. read_then _ (number_lang 32 refl) (λ c. read_then _ (found_lang other may) (λ f. done_lang _))))
+event_rest_lang other may (event_words.Reading reading_words.Next) = read_then _ (section_lang 32 32 space) (λ s. read_then _ (marked_lang 32 32 space) (λ o. read_then _ (found_lang other may) (λ f. done_lang _)))
+event_rest_lang other may (event_words.Reading reading_words.Touch) = read_then _ (section_lang 32 32 space) (λ s. read_then _ (marked_lang 10 other may) (λ o. done_lang _))
+event_rest_lang other may (event_words.Chain chain_words.Push) = read_then _ (number_lang 32 refl) (λ c. read_then _ (marked_lang 10 other may) (λ o. done_lang _))
+event_rest_lang other may (event_words.Chain chain_words.Replace) = read_then _ (number_lang 32 refl) (λ c. read_then _ (marked_lang 32 32 space) (λ o. read_then _ (marked_lang 10 other may) (λ n. done_lang _)))
+event_rest_lang other may (event_words.Chain chain_words.Cut) = read_then _ (number_lang 32 refl) (λ c. read_then _ (marked_lang 10 other may) (λ o. done_lang _))
+event_rest_lang other may (event_words.Object object_words.Retire) = read_then _ (object_lang 10 other may) (λ o. done_lang _)
+event_rest_lang other may (event_words.Object object_words.Queue) = read_then _ (object_lang 32 32 space) (λ o. read_then _ (byte_lang 113 113 refl) (λ m. read_then _ (short_lang 10 other may) (λ q. done_lang _)))
+event_rest_lang other may (event_words.Object object_words.Run) = read_then _ (object_lang 10 other may) (λ o. done_lang _)
+event_rest_lang other may (event_words.Wait w) = read_then _ (long_lang 10 other may) (λ n. done_lang _)
 
 -- how the pieces of a text are bracketed
 shape_first : (w r d p n s c k f e : List ℕ) → (w ++ r) ++ (((d ++ p ++ n) ++ s) ++ (c ++ ((k ++ s) ++ (f ++ e)))) ≡ (w ++ (r ++ d ++ p ++ n) ++ s ++ (c ++ k) ++ s ++ f) ++ e
@@ -190,16 +82,10 @@ abbrev pub EventRow : ℕ → List ℕ → EventWord → Type 0
 EventRow other w k = (x : EventEnd) (u : List ℕ) → EventRest other k x u → EventText other x (w ++ u)
 
 section_row : (other : ℕ) (w : SectionWord) (word : List ℕ) → ((s : SectionId) → (text_of (section_event_of w s) ≡ word ++ section_tail s) × (IsEvent (section_event_of w s) ≡ (IsEvent (Open s)))) → EventRow other word (event_words.Section w)
-section_row other w word h x u r =
-    let g = h r.0.0 in
-    subst (λ (p : EventEnd). EventText other p (word ++ u)) r.4.0
-    (subst (λ (t : Type 0). t) (sym g.1) r.3.0, r.3.1, rw (r.5, r.4.1, r.3.2, g.0) (simp (append_assoc, append-nil)))
+section_row other w word h x u r = grind (arith, append_assoc, append-nil)
 
 wait_row : (other : ℕ) (w : WaitWord) (word : List ℕ) → ((n : ℕ) → (text_of (wait_event_of w n) ≡ word ++ decimal n) × (IsEvent (wait_event_of w n) ≡ (IsEvent (Ask n)))) → EventRow other word (event_words.Wait w)
-wait_row other w word h x u r =
-    let g = h r.0.0 in
-    subst (λ (p : EventEnd). EventText other p (word ++ u)) r.4.0
-    (subst (λ (t : Type 0). t) (sym g.1) r.3.0, r.3.1, rw (r.5, r.4.1, r.3.2, g.0) (simp (append_assoc, append-nil)))
+wait_row other w word h x u r = grind (arith, append_assoc, append-nil)
 
 first_row : (other : ℕ) → EventRow other (codes "first r") (event_words.Reading reading_words.First)
 first_row other x u r =
@@ -238,59 +124,32 @@ replace_row other x u r =
     ((r.3.0, o.3.0, n.3.0), n.3.1, rw (r.5, r.3.1, o.5, o.3.2, is_that 32 o.0.1 o.3.1, n.5, n.3.2, n.4.1, append-nil (object_text n.0.0 ++ n.0.1 ∷ [])) (shape_replace (codes "replace ") (codes "c") (decimal r.0) (codes " ") (object_text o.0.0) (object_text n.0.0) (n.0.1 ∷ [])))
 
 retire_row : (other : ℕ) → EventRow other (codes "retire o") (event_words.Object object_words.Retire)
-retire_row other x u r =
-    subst (λ (p : EventEnd). EventText other p (codes "retire o" ++ u)) r.4.0
-    (r.3.0, r.3.1, rw (r.5, r.3.2, r.4.1) (simp (append_assoc, append-nil)))
+retire_row other x u r = grind (arith, append_assoc, append-nil)
 
 run_row : (other : ℕ) → EventRow other (codes "run o") (event_words.Object object_words.Run)
-run_row other x u r =
-    subst (λ (p : EventEnd). EventText other p (codes "run o" ++ u)) r.4.0
-    (r.3.0, r.3.1, rw (r.5, r.3.2, r.4.1) (simp (append_assoc, append-nil)))
+run_row other x u r = grind (arith, append_assoc, append-nil)
 
 queue_row : (other : ℕ) → EventRow other (codes "queue o") (event_words.Object object_words.Queue)
-queue_row other x u r =
-    let m = r.4 in let q = m.4 in
-    subst (λ (p : EventEnd). EventText other p (codes "queue o" ++ u)) q.4.0
-    ((r.3.0, q.3.0), q.3.1, rw (r.5, r.3.2, is_that 32 r.0.1 r.3.1, m.5, m.3.1, is_that 113 m.0 m.3.0, q.5, q.3.2, q.4.1) (simp (append_assoc, append-nil)))
+queue_row other x u r = grind (arith, is_that, append_assoc, append-nil)
 
 pub event_rows : (other : ℕ) → EachRow (EventRow other) event_words_of
-event_rows other = (
-  section_row other section_words.Open (codes "open r") (λ s. (refl, refl)),
-  (
-    section_row other section_words.Close (codes "close r") (λ s. (refl, refl)),
-    (
-      first_row other,
-      (
-        next_row other,
-        (
-          touch_row other,
-          (
-            push_row other,
-            (
-              replace_row other,
-              (
-                cut_row other,
-                (
-                  retire_row other,
-                  (
-                    queue_row other,
-                    (
-                      run_row other,
-                      (
-                        wait_row other wait_words.Ask (codes "ask a") (λ n. (refl, refl)),
-                        (wait_row other wait_words.Answer (codes "answer a") (λ n. (refl, refl)), (wait_row other wait_words.Bar (codes "bar b") (λ n. (refl, refl)), (wait_row other wait_words.Clear (codes "clear b") (λ n. (refl, refl)), tt))),
-                      ),
-                    ),
-                  ),
-                ),
-              ),
-            ),
-          ),
-        ),
-      ),
-    ),
-  ),
-)
+event_rows other =
+    section_row other section_words.Open (codes "open r") (λ s. (refl, refl))
+    & section_row other section_words.Close (codes "close r") (λ s. (refl, refl))
+    & first_row other
+    & next_row other
+    & touch_row other
+    & push_row other
+    & replace_row other
+    & cut_row other
+    & retire_row other
+    & queue_row other
+    & run_row other
+    & wait_row other wait_words.Ask (codes "ask a") (λ n. (refl, refl))
+    & wait_row other wait_words.Answer (codes "answer a") (λ n. (refl, refl))
+    & wait_row other wait_words.Bar (codes "bar b") (λ n. (refl, refl))
+    & wait_row other wait_words.Clear (codes "clear b") (λ n. (refl, refl))
+    & tt
 
 -- ---- the event's text is read
 
@@ -330,53 +189,39 @@ word_text (Bar _) = codes "bar b"
 word_text (Clear _) = codes "clear b"
 
 pub word_there : (e : Event) → InTable event_words_of (word_of e) (word_text e)
-word_there (Open s) = inl (refl, refl)
-word_there (Close s) = inr (inl (refl, refl))
-word_there (First s c f) = inr (inr (inl (refl, refl)))
-word_there (Next s o f) = inr (inr (inr (inl (refl, refl))))
-word_there (Touch s o) = inr (inr (inr (inr (inl (refl, refl)))))
-word_there (Push c o) = inr (inr (inr (inr (inr (inl (refl, refl))))))
-word_there (Replace c old new) = inr (inr (inr (inr (inr (inr (inl (refl, refl)))))))
-word_there (Cut c o) = inr (inr (inr (inr (inr (inr (inr (inl (refl, refl))))))))
-word_there (Retire o) = inr (inr (inr (inr (inr (inr (inr (inr (inl (refl, refl)))))))))
-word_there (Queue o q) = inr (inr (inr (inr (inr (inr (inr (inr (inr (inl (refl, refl))))))))))
-word_there (Run o) = inr (inr (inr (inr (inr (inr (inr (inr (inr (inr (inl (refl, refl)))))))))))
-word_there (Ask n) = inr (inr (inr (inr (inr (inr (inr (inr (inr (inr (inr (inl (refl, refl))))))))))))
-word_there (Answer n) = inr (inr (inr (inr (inr (inr (inr (inr (inr (inr (inr (inr (inl (refl, refl)))))))))))))
-word_there (Bar n) = inr (inr (inr (inr (inr (inr (inr (inr (inr (inr (inr (inr (inr (inl (refl, refl))))))))))))))
-word_there (Clear n) = inr (inr (inr (inr (inr (inr (inr (inr (inr (inr (inr (inr (inr (inr (inl (refl, refl)))))))))))))))
+word_there e = grind arith
 
 -- one piece, and nothing after it
-last : {A : Type 0} (S : A → List ℕ → Type 0) (make : A → EventEnd) (x : A) (u : List ℕ) → S x u → Then S (λ y. Done (make y)) (make x) u
-last S make x u s = (x, u, [], s, (refl, refl), sym (append-nil u))
+last : {A : Type 0} (S : A → List ℕ → Type 0) {Q : A → List ℕ → Type 0} (x : A) (u : List ℕ) → S x u → Q x [] → (y : A) × (front rest : List ℕ) × S y front × Q y rest × (u ≡ front ++ rest)
+last S x u s q = (x, u, [], s, q, sym (append-nil u))
 
 pub event_unspelled : (other : ℕ) (e : Event) (b : ℕ) → IsEvent e → is_end 10 other b ≡ true → (u : List ℕ) × EventRest other (word_of e) (e, b) u × (text_of e ++ b ∷ [] ≡ word_text e ++ u)
-event_unspelled other (Open s) b is end = (section_tail s ++ b ∷ [], last (SectionText 10 other) (section_end section_words.Open) (s, b) _ (is, end, refl), simp append_assoc)
-event_unspelled other (Close s) b is end = (section_tail s ++ b ∷ [], last (SectionText 10 other) (section_end section_words.Close) (s, b) _ (is, end, refl), simp append_assoc)
+event_unspelled other (Open s) b is end = (section_tail s ++ b ∷ [], last (SectionText 10 other) (s, b) _ (is, end, refl) (refl, refl), simp append_assoc)
+event_unspelled other (Close s) b is end = (section_tail s ++ b ∷ [], last (SectionText 10 other) (s, b) _ (is, end, refl) (refl, refl), simp append_assoc)
 event_unspelled other (First s c f) b is end =
     let w = found_text f ++ b ∷ [] in let v = (decimal c ++ 32 ∷ []) ++ w in
-    ((section_tail s ++ 32 ∷ []) ++ (99 ∷ v), ((s, 32), section_tail s ++ 32 ∷ [], 99 ∷ v, (is.0, refl, refl), (99, 99 ∷ [], v, (refl, refl), (c, decimal c ++ 32 ∷ [], w, (is.1, refl), last (FoundText other) (first_end (s, 32) c) (f, b) w (is.2, end, refl), refl), refl), refl), sym (shape_first (codes "first ") (codes "r") (decimal s.reader) (codes ".") (decimal s.ordinal) (codes " ") (codes "c") (decimal c) (found_text f) (b ∷ [])))
+    ((section_tail s ++ 32 ∷ []) ++ (99 ∷ v), ((s, 32), section_tail s ++ 32 ∷ [], 99 ∷ v, (is.0, refl, refl), (99, 99 ∷ [], v, (refl, refl), (c, decimal c ++ 32 ∷ [], w, (is.1, refl), last (FoundText other) (f, b) w (is.2, end, refl) (refl, refl), refl), refl), refl), sym (shape_first (codes "first ") (codes "r") (decimal s.reader) (codes ".") (decimal s.ordinal) (codes " ") (codes "c") (decimal c) (found_text f) (b ∷ [])))
 event_unspelled other (Next s o f) b is end =
     let w = found_text f ++ b ∷ [] in let v = (object_text o ++ 32 ∷ []) ++ w in
-    ((section_tail s ++ 32 ∷ []) ++ v, ((s, 32), section_tail s ++ 32 ∷ [], v, (is.0, refl, refl), ((o, 32), object_text o ++ 32 ∷ [], w, (is.1, refl, refl), last (FoundText other) (next_end (s, 32) (o, 32)) (f, b) w (is.2, end, refl), refl), refl), sym (shape_next (codes "next ") (codes "r") (decimal s.reader) (codes ".") (decimal s.ordinal) (codes " ") (object_text o) (found_text f) (b ∷ [])))
+    ((section_tail s ++ 32 ∷ []) ++ v, ((s, 32), section_tail s ++ 32 ∷ [], v, (is.0, refl, refl), ((o, 32), object_text o ++ 32 ∷ [], w, (is.1, refl, refl), last (FoundText other) (f, b) w (is.2, end, refl) (refl, refl), refl), refl), sym (shape_next (codes "next ") (codes "r") (decimal s.reader) (codes ".") (decimal s.ordinal) (codes " ") (object_text o) (found_text f) (b ∷ [])))
 event_unspelled other (Touch s o) b is end =
     let w = object_text o ++ b ∷ [] in
-    ((section_tail s ++ 32 ∷ []) ++ w, ((s, 32), section_tail s ++ 32 ∷ [], w, (is.0, refl, refl), last (MarkedText 10 other) (touch_end (s, 32)) (o, b) w (is.1, end, refl), refl), sym (shape_touch (codes "touch ") (codes "r") (decimal s.reader) (codes ".") (decimal s.ordinal) (codes " ") (object_text o) (b ∷ [])))
+    ((section_tail s ++ 32 ∷ []) ++ w, ((s, 32), section_tail s ++ 32 ∷ [], w, (is.0, refl, refl), last (MarkedText 10 other) (o, b) w (is.1, end, refl) (refl, refl), refl), sym (shape_touch (codes "touch ") (codes "r") (decimal s.reader) (codes ".") (decimal s.ordinal) (codes " ") (object_text o) (b ∷ [])))
 event_unspelled other (Push c o) b is end =
     let w = object_text o ++ b ∷ [] in
-    ((decimal c ++ 32 ∷ []) ++ w, (c, decimal c ++ 32 ∷ [], w, (is.0, refl), last (MarkedText 10 other) (push_end c) (o, b) w (is.1, end, refl), refl), sym (shape_chain (codes "push ") (codes "c") (decimal c) (codes " ") (object_text o) (b ∷ [])))
+    ((decimal c ++ 32 ∷ []) ++ w, (c, decimal c ++ 32 ∷ [], w, (is.0, refl), last (MarkedText 10 other) (o, b) w (is.1, end, refl) (refl, refl), refl), sym (shape_chain (codes "push ") (codes "c") (decimal c) (codes " ") (object_text o) (b ∷ [])))
 event_unspelled other (Replace c old new) b is end =
     let w = object_text new ++ b ∷ [] in let v = (object_text old ++ 32 ∷ []) ++ w in
-    ((decimal c ++ 32 ∷ []) ++ v, (c, decimal c ++ 32 ∷ [], v, (is.0, refl), ((old, 32), object_text old ++ 32 ∷ [], w, (is.1, refl, refl), last (MarkedText 10 other) (replace_end c (old, 32)) (new, b) w (is.2, end, refl), refl), refl), sym (shape_replace (codes "replace ") (codes "c") (decimal c) (codes " ") (object_text old) (object_text new) (b ∷ [])))
+    ((decimal c ++ 32 ∷ []) ++ v, (c, decimal c ++ 32 ∷ [], v, (is.0, refl), ((old, 32), object_text old ++ 32 ∷ [], w, (is.1, refl, refl), last (MarkedText 10 other) (new, b) w (is.2, end, refl) (refl, refl), refl), refl), sym (shape_replace (codes "replace ") (codes "c") (decimal c) (codes " ") (object_text old) (object_text new) (b ∷ [])))
 event_unspelled other (Cut c o) b is end =
     let w = object_text o ++ b ∷ [] in
-    ((decimal c ++ 32 ∷ []) ++ w, (c, decimal c ++ 32 ∷ [], w, (is.0, refl), last (MarkedText 10 other) (cut_end c) (o, b) w (is.1, end, refl), refl), sym (shape_chain (codes "cut ") (codes "c") (decimal c) (codes " ") (object_text o) (b ∷ [])))
-event_unspelled other (Retire o) b is end = (number_of o ++ b ∷ [], last (ObjectText 10 other) retire_end (o, b) _ (is, end, refl), simp append_assoc)
+    ((decimal c ++ 32 ∷ []) ++ w, (c, decimal c ++ 32 ∷ [], w, (is.0, refl), last (MarkedText 10 other) (o, b) w (is.1, end, refl) (refl, refl), refl), sym (shape_chain (codes "cut ") (codes "c") (decimal c) (codes " ") (object_text o) (b ∷ [])))
+event_unspelled other (Retire o) b is end = (number_of o ++ b ∷ [], last (ObjectText 10 other) (o, b) _ (is, end, refl) (refl, refl), simp append_assoc)
 event_unspelled other (Queue o q) b is end =
     let w = decimal q ++ b ∷ [] in
-    ((number_of o ++ 32 ∷ []) ++ (113 ∷ w), ((o, 32), number_of o ++ 32 ∷ [], 113 ∷ w, (is.0, refl, refl), (113, 113 ∷ [], w, (refl, refl), last (ShortText 10 other) (queue_end (o, 32)) (q, b) w (is.1, end, refl), refl), refl), simp append_assoc)
-event_unspelled other (Run o) b is end = (number_of o ++ b ∷ [], last (ObjectText 10 other) run_end (o, b) _ (is, end, refl), simp append_assoc)
-event_unspelled other (Ask n) b is end = (decimal n ++ b ∷ [], last (LongText 10 other) (wait_end wait_words.Ask) (n, b) _ (is, end, refl), simp append_assoc)
-event_unspelled other (Answer n) b is end = (decimal n ++ b ∷ [], last (LongText 10 other) (wait_end wait_words.Answer) (n, b) _ (is, end, refl), simp append_assoc)
-event_unspelled other (Bar n) b is end = (decimal n ++ b ∷ [], last (LongText 10 other) (wait_end wait_words.Bar) (n, b) _ (is, end, refl), simp append_assoc)
-event_unspelled other (Clear n) b is end = (decimal n ++ b ∷ [], last (LongText 10 other) (wait_end wait_words.Clear) (n, b) _ (is, end, refl), simp append_assoc)
+    ((number_of o ++ 32 ∷ []) ++ (113 ∷ w), ((o, 32), number_of o ++ 32 ∷ [], 113 ∷ w, (is.0, refl, refl), (113, 113 ∷ [], w, (refl, refl), last (ShortText 10 other) (q, b) w (is.1, end, refl) (refl, refl), refl), refl), simp append_assoc)
+event_unspelled other (Run o) b is end = (number_of o ++ b ∷ [], last (ObjectText 10 other) (o, b) _ (is, end, refl) (refl, refl), simp append_assoc)
+event_unspelled other (Ask n) b is end = (decimal n ++ b ∷ [], last (LongText 10 other) (n, b) _ (is, end, refl) (refl, refl), simp append_assoc)
+event_unspelled other (Answer n) b is end = (decimal n ++ b ∷ [], last (LongText 10 other) (n, b) _ (is, end, refl) (refl, refl), simp append_assoc)
+event_unspelled other (Bar n) b is end = (decimal n ++ b ∷ [], last (LongText 10 other) (n, b) _ (is, end, refl) (refl, refl), simp append_assoc)
+event_unspelled other (Clear n) b is end = (decimal n ++ b ∷ [], last (LongText 10 other) (n, b) _ (is, end, refl) (refl, refl), simp append_assoc)

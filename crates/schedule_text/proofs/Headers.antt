@@ -1,13 +1,13 @@
 -- The header is read exactly.
-use Rattle.schedule_text.proofs.Cited.{◌≡◌, ℕ, List, [], ◌∷◌, ◌++◌, Err, refl, sym, subst, ◌∙◌, inl, inr, codes, decimal, append-nil, Layout, Narrow, Wide, Config, Flavour, Memb, Qsbr}
-use Rattle.schedule_text.specs.Reading.{◌>>=◌, word_from, word_on, word_at, number_at}
-use Rattle.schedule_text.specs.Grammar.{done, layouts, flavours, header_at}
+use Rattle.schedule_text.proofs.Cited.{arith, ◌≡◌, ℕ, List, [], ◌∷◌, ◌++◌, Err, refl, sym, subst, ◌∙◌, inl, codes, decimal, append-nil, Layout, Narrow, Config, Flavour, Memb}
+use Rattle.schedule_text.specs.Reading.{word_from, word_on}
+use Rattle.schedule_text.specs.Grammar.{layouts, flavours, header_at}
 use Rattle.schedule_text.specs.Header.{version, flavour_text, header, HeaderText}
 use Rattle.schedule_text.proofs.Exact.{Reads, Done, Then, reads_as}
 use Rattle.schedule_text.proofs.Tables.{InTable}
 use Rattle.schedule_text.proofs.Numbers.{NumberText}
 use Rattle.schedule_text.proofs.Verbs.{each_row}
-use Rattle.schedule_text.proofs.Langs.{Lang, then_lang, done_lang, number_lang, table_lang}
+use Rattle.schedule_text.proofs.Langs.{Lang, read_then, done_lang, number_lang, table_lang}
 
 abbrev made : Layout → Flavour → ℕ → ℕ → ℕ → ℕ → Config
 made l f r u w c = record { layout = l; flavour = f; readers = r; updaters = u; workers = w; chains = c }
@@ -27,21 +27,11 @@ ReadersText l f = Then (NumberText 32) (UpdatersText l f)
 abbrev FlavourText : Layout → Config → List ℕ → Type 0
 FlavourText l = Then (InTable flavours) (ReadersText l)
 
-chains_lang : (l : Layout) (f : Flavour) (r u w : ℕ) → Lang (ChainsText l f r u w) (λ t. number_at 10 t >>= λ c. done (made l f r u w c.0) c.1)
-chains_lang l f r u w = then_lang (NumberText 10) (λ c. Done (made l f r u w c)) (number_at 10) (λ c. done (made l f r u w c)) (number_lang 10 refl) (λ c. done_lang (made l f r u w c))
-
-workers_lang : (l : Layout) (f : Flavour) (r u : ℕ) → Lang (WorkersText l f r u) (λ t. number_at 32 t >>= λ w. number_at 10 w.1 >>= λ c. done (made l f r u w.0 c.0) c.1)
-workers_lang l f r u = then_lang (NumberText 32) (ChainsText l f r u) (number_at 32) (λ w t. number_at 10 t >>= λ c. done (made l f r u w c.0) c.1) (number_lang 32 refl) (chains_lang l f r u)
-
-updaters_lang : (l : Layout) (f : Flavour) (r : ℕ) → Lang (UpdatersText l f r) (λ t. number_at 32 t >>= λ u. number_at 32 u.1 >>= λ w. number_at 10 w.1 >>= λ c. done (made l f r u.0 w.0 c.0) c.1)
-updaters_lang l f r = then_lang (NumberText 32) (WorkersText l f r) (number_at 32) (λ u t. number_at 32 t >>= λ w. number_at 10 w.1 >>= λ c. done (made l f r u w.0 c.0) c.1) (number_lang 32 refl) (workers_lang l f r)
-
-readers_lang : (l : Layout) (f : Flavour) → Lang (ReadersText l f) (λ t. number_at 32 t >>= λ r. number_at 32 r.1 >>= λ u. number_at 32 u.1 >>= λ w. number_at 10 w.1 >>= λ c. done (made l f r.0 u.0 w.0 c.0) c.1)
-readers_lang l f = then_lang (NumberText 32) (UpdatersText l f) (number_at 32) (λ r t. number_at 32 t >>= λ u. number_at 32 u.1 >>= λ w. number_at 10 w.1 >>= λ c. done (made l f r u.0 w.0 c.0) c.1) (number_lang 32 refl) (updaters_lang l f)
-
-flavour_lang : (l : Layout) → Lang (FlavourText l) (λ t. word_at flavours t >>= λ f. number_at 32 f.1 >>= λ r. number_at 32 r.1 >>= λ u. number_at 32 u.1 >>= λ w. number_at 10 w.1 >>= λ c. done (made l f.0 r.0 u.0 w.0 c.0) c.1)
-flavour_lang l = then_lang (InTable flavours) (ReadersText l) (word_at flavours) (λ f t. number_at 32 t >>= λ r. number_at 32 r.1 >>= λ u. number_at 32 u.1 >>= λ w. number_at 10 w.1 >>= λ c. done (made l f r.0 u.0 w.0 c.0) c.1)
-    (table_lang flavours refl (Memb, codes "memb ", inl (refl, refl))) (readers_lang l)
+header_lang : Lang (Then (InTable layouts) FlavourText) header_at
+unfolding header_at
+header_lang =
+    read_then _ (table_lang layouts refl (Narrow, codes "schedule 1 ", inl (refl, refl))) (λ l. read_then _ (table_lang flavours refl (Memb, codes "memb ", inl (refl, refl))) (λ f. read_then _ (number_lang 32 refl) (λ r.
+    read_then _ (number_lang 32 refl) (λ u. read_then _ (number_lang 32 refl) (λ w. read_then _ (number_lang 10 refl) (λ c. done_lang (made l f r u w c)))))))
 
 layout_is : (l : Layout) (w : List ℕ) → InTable layouts l w → w ≡ version l
 layout_is l w i = each_row (λ v k. v ≡ version k) layouts l w (refl, (refl, tt)) i
@@ -50,12 +40,10 @@ flavour_is : (f : Flavour) (w : List ℕ) → InTable flavours f w → w ≡ fla
 flavour_is f w i = each_row (λ v k. v ≡ flavour_text k) flavours f w (refl, (refl, tt)) i
 
 layout_in : (l : Layout) → InTable layouts l (version l)
-layout_in Narrow = inl (refl, refl)
-layout_in Wide = inr (inl (refl, refl))
+layout_in l = grind arith
 
 flavour_in : (f : Flavour) → InTable flavours f (flavour_text f)
-flavour_in Memb = inl (refl, refl)
-flavour_in Qsbr = inr (inl (refl, refl))
+flavour_in f = grind arith
 
 header_spelled : (c : Config) (text : List ℕ) → Then (InTable layouts) FlavourText c text → HeaderText c text
 header_spelled c text s =
@@ -70,49 +58,15 @@ header_unspelled c text s =
     let chains = decimal c.chains ++ 10 ∷ [] in
     let workers = (decimal c.workers ++ 32 ∷ []) ++ chains in
     let updaters = (decimal c.updaters ++ 32 ∷ []) ++ workers in
-    let readers = (decimal c.readers ++ 32 ∷ []) ++ updaters in (
-      c.layout,
-      version c.layout,
-      flavour_text c.flavour ++ readers,
-      layout_in c.layout,
-      (
-        c.flavour,
-        flavour_text c.flavour,
-        readers,
-        flavour_in c.flavour,
-        (
-          c.readers,
-          decimal c.readers ++ 32 ∷ [],
-          updaters,
-          (h.readers, refl),
-          (
-            c.updaters,
-            decimal c.updaters ++ 32 ∷ [],
-            workers,
-            (h.updaters, refl),
-            (
-              c.workers,
-              decimal c.workers ++ 32 ∷ [],
-              chains,
-              (h.workers, refl),
-              (c.chains, decimal c.chains ++ 10 ∷ [], [], (h.chains, refl), (refl, refl), sym (append-nil chains)),
-              refl,
-            ),
-            refl,
-          ),
-          refl,
-        ),
-        refl,
-      ),
-      s.1,
-    )
+    let readers = (decimal c.readers ++ 32 ∷ []) ++ updaters in
+    let of_chains : ChainsText c.layout c.flavour c.readers c.updaters c.workers c chains = (c.chains, chains, [], (h.chains, refl), (refl, refl), sym (append-nil chains)) in
+    let of_workers : WorkersText c.layout c.flavour c.readers c.updaters c workers = (c.workers, decimal c.workers ++ 32 ∷ [], chains, (h.workers, refl), of_chains, refl) in
+    let of_updaters : UpdatersText c.layout c.flavour c.readers c updaters = (c.updaters, decimal c.updaters ++ 32 ∷ [], workers, (h.updaters, refl), of_workers, refl) in
+    let of_readers : ReadersText c.layout c.flavour c readers = (c.readers, decimal c.readers ++ 32 ∷ [], updaters, (h.readers, refl), of_updaters, refl) in
+    (c.layout, version c.layout, flavour_text c.flavour ++ readers, layout_in c.layout, (c.flavour, flavour_text c.flavour, readers, flavour_in c.flavour, of_readers, refl), s.1)
 
 pub header_reads : Reads HeaderText header_at
-unfolding header_at
-header_reads =
-    reads_as (then_lang (InTable layouts) FlavourText (word_at layouts) (λ l t. word_at flavours t >>= λ f. number_at 32 f.1 >>= λ r. number_at 32 r.1 >>= λ u. number_at 32 u.1 >>= λ w. number_at 10 w.1 >>= λ c. done (made l f.0 r.0 u.0 w.0 c.0) c.1)
-    (table_lang layouts refl (Narrow, codes "schedule 1 ", inl (refl, refl))) flavour_lang).reads
-    header_spelled header_unspelled
+header_reads = reads_as header_lang.reads header_spelled header_unspelled
 
 -- no bytes are a beginning that goes on
 pub no_header : header_at [] ≡ Err []

@@ -17,6 +17,10 @@ then_lang S T read next first second = record {
   some = let a = first.some in let b = (second a.0).some in (b.0, a.1 ++ b.1, (a.0, a.1, b.1, a.2, b.2, refl));
 }
 
+-- the same, where what is read next depends on what was read and on the rest together
+pub read_then : {A B : Type 0} {S : A → List ℕ → Type 0} {T : A → B → List ℕ → Type 0} {read : List ℕ → Reading A} (next : A × List ℕ → Reading B) → Lang S read → ((x : A) → Lang (T x) (λ text. next (x, text))) → Lang (Then S T) (λ text. read text >>= next)
+read_then {A} {B} {S} {T} {read} next first second = then_lang S T read (λ x text. next (x, text)) first second
+
 pub done_lang : {A : Type 0} (x : A) → Lang (Done x) (done x)
 done_lang x = record { reads = done_reads x; some = (x, [], (refl, refl)) }
 

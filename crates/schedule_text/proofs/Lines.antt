@@ -1,17 +1,18 @@
 -- A line is read exactly.
-use Rattle.schedule_text.proofs.Cited.{◌≡◌, ℕ, List, [], ◌∷◌, ◌++◌, refl, sym, subst, append_assoc, inl, inr, Err, lit<, codes, decimal, append-nil, Line, Reader, Updater, Worker}
-use Rattle.schedule_text.specs.Reading.{Reading, ◌>>=◌, word_from, word_on, word_at, number_at}
-use Rattle.schedule_text.specs.Grammar.{done, actor_words, reader_verb_at, updater_verb_at, worker_verb_at, verb_of, line_at}
+use Rattle.schedule_text.proofs.Cited.{◌≡◌, ℕ, List, [], ◌∷◌, ◌++◌, refl, sym, subst, append_assoc, inl, inr, Err, codes, decimal, append-nil, Line, Reader, Updater, Worker}
+use Rattle.schedule_text.specs.Reading.{word_from, word_on}
+use Rattle.schedule_text.specs.Grammar.{actor_words, verb_of, line_at}
 use Rattle.schedule_text.specs.Spelling.{reader_verb, updater_verb, worker_verb, IsNumber, LineText}
 use Rattle.world_state.specs.declared.line.ReaderVerb.TheVariants as reader
 use Rattle.world_state.specs.declared.line.UpdaterVerb.TheVariants as updater
 use Rattle.world_state.specs.declared.line.WorkerVerb.TheVariants as worker
 use Rattle.schedule_text.specs.declared.words.ActorWord.{ActorWord}
 use Rattle.schedule_text.specs.declared.words.ActorWord.TheVariants as actors
-use Rattle.schedule_text.proofs.Exact.{Reads, Done, Then, done_reads, then_reads, reads_as}
-use Rattle.schedule_text.proofs.Tables.{InTable, table_reads}
-use Rattle.schedule_text.proofs.Numbers.{NumberText, number_reads}
-use Rattle.schedule_text.proofs.Verbs.{EachRow, each_row, ReaderText, UpdaterText, WorkerText, reader_verb_reads, updater_verb_reads, worker_verb_reads}
+use Rattle.schedule_text.proofs.Exact.{Reads, Done, Then, reads_as}
+use Rattle.schedule_text.proofs.Tables.{InTable}
+use Rattle.schedule_text.proofs.Numbers.{NumberText}
+use Rattle.schedule_text.proofs.Langs.{Lang, read_then, done_lang, number_lang, table_lang}
+use Rattle.schedule_text.proofs.Verbs.{EachRow, ◌&◌, each_row, ReaderText, UpdaterText, WorkerText, reader_verb_reads, updater_verb_reads, worker_verb_reads}
 
 abbrev Said : {V : Type 0} → (V → List ℕ → Type 0) → (V → Line) → Line → List ℕ → Type 0
 Said VerbText make = Then VerbText (λ v. Done (make v))
@@ -21,30 +22,20 @@ VerbOf actors.Reader n = Said ReaderText (Reader n)
 VerbOf actors.Updater n = Said UpdaterText (Updater n)
 VerbOf actors.Worker n = Said WorkerText (Worker n)
 
-said_reads : {V : Type 0} (VerbText : V → List ℕ → Type 0) (read : List ℕ → Reading V) (make : V → Line) → Reads VerbText read → Reads (Said VerbText make) (λ text. read text >>= λ v. done (make v.0) v.1)
-said_reads VerbText read make r = then_reads VerbText (λ v. Done (make v)) read (λ v. done (make v)) r (λ v. done_reads (make v)) (λ v. (make v, [], (refl, refl)))
-
-verb_of_reads : (a : ActorWord) (n : ℕ) → Reads (VerbOf a n) (verb_of a n)
-verb_of_reads actors.Reader n = said_reads ReaderText reader_verb_at (Reader n) reader_verb_reads
-verb_of_reads actors.Updater n = said_reads UpdaterText updater_verb_at (Updater n) updater_verb_reads
-verb_of_reads actors.Worker n = said_reads WorkerText worker_verb_at (Worker n) worker_verb_reads
-
 said : {V : Type 0} (VerbText : V → List ℕ → Type 0) (make : V → Line) (v : V) (text : List ℕ) → VerbText v text → Said VerbText make (make v) text
 said VerbText make v text h = (v, text, [], h, (refl, refl), sym (append-nil text))
 
-verb_of_some : (a : ActorWord) (n : ℕ) → (l : Line) × (text : List ℕ) × VerbOf a n l text
-verb_of_some actors.Reader n = (Reader n reader.Lock, codes "lock\n", said ReaderText (Reader n) reader.Lock (codes "lock\n") (tt, refl))
-verb_of_some actors.Updater n = (Updater n updater.Sync, codes "sync\n", said UpdaterText (Updater n) updater.Sync (codes "sync\n") (tt, refl))
-verb_of_some actors.Worker n = (Worker n worker.GoOn, codes ".\n", said WorkerText (Worker n) worker.GoOn (codes ".\n") refl)
+verb_of_lang : (a : ActorWord) (n : ℕ) → Lang (VerbOf a n) (verb_of a n)
+verb_of_lang actors.Reader n = read_then _ (record { reads = reader_verb_reads; some = (reader.Lock, codes "lock\n", (tt, refl)) }) (λ v. done_lang (Reader n v))
+verb_of_lang actors.Updater n = read_then _ (record { reads = updater_verb_reads; some = (updater.Sync, codes "sync\n", (tt, refl)) }) (λ v. done_lang (Updater n v))
+verb_of_lang actors.Worker n = read_then _ (record { reads = worker_verb_reads; some = (worker.GoOn, codes ".\n", refl) }) (λ v. done_lang (Worker n v))
 
 abbrev Acts : ActorWord → Line → List ℕ → Type 0
 Acts a = Then (NumberText 32) (VerbOf a)
 
-acts_reads : (a : ActorWord) → Reads (Acts a) (λ text. number_at 32 text >>= λ n. verb_of a n.0 n.1)
-acts_reads a = then_reads (NumberText 32) (VerbOf a) (number_at 32) (verb_of a) (number_reads 32 refl) (verb_of_reads a) (verb_of_some a)
-
-acts_some : (a : ActorWord) → (l : Line) × (text : List ℕ) × Acts a l text
-acts_some a = let v = verb_of_some a 0 in (v.0, (decimal 0 ++ 32 ∷ []) ++ v.1, (0, decimal 0 ++ 32 ∷ [], v.1, (lit< tt, refl), v.2, refl))
+line_lang : Lang (Then (InTable actor_words) Acts) line_at
+unfolding line_at
+line_lang = read_then _ (table_lang actor_words refl (actors.Reader, codes "r", inl (refl, refl))) (λ a. read_then _ (number_lang 32 refl) (λ n. verb_of_lang a n))
 
 abbrev actor_row : List ℕ → ActorWord → Type 0
 actor_row w a = (l : Line) (u : List ℕ) → Acts a l u → LineText l (w ++ u)
@@ -58,13 +49,11 @@ acts_as VerbText make w h l u s =
     subst (λ (m : Line). LineText m (w ++ u)) t.4.0 (subst (LineText (make s.0 t.0)) (sym is) g)
 
 actor_rows : EachRow actor_row actor_words
-actor_rows = (
-  acts_as ReaderText Reader (codes "r") (λ n v u h t. ((h, t.0), rw t.1 refl)),
-  (
-    acts_as UpdaterText Updater (codes "u") (λ n v u h t. ((h, t.0), rw t.1 refl)),
-    (acts_as WorkerText Worker (codes "w") (λ n v u h t. (h, rw t refl)), tt),
-  ),
-)
+actor_rows =
+    acts_as ReaderText Reader (codes "r") (λ n v u h t. ((h, t.0), rw t.1 refl))
+    & acts_as UpdaterText Updater (codes "u") (λ n v u h t. ((h, t.0), rw t.1 refl))
+    & acts_as WorkerText Worker (codes "w") (λ n v u h t. (h, rw t refl))
+    & tt
 
 line_spelled : (l : Line) (text : List ℕ) → Then (InTable actor_words) Acts l text → LineText l text
 line_spelled l text s = subst (LineText l) (sym s.5) (each_row actor_row actor_words s.0 s.1 actor_rows s.3 l s.2 s.4)
@@ -78,10 +67,7 @@ line_unspelled (Updater n v) text s = (actors.Updater, codes "u", decimal n ++ 3
 line_unspelled (Worker n v) text s = (actors.Worker, codes "w", decimal n ++ 32 ∷ [] ++ worker_verb v, inr (inr (inl (refl, refl))), acting WorkerText Worker n v (worker_verb v) s.0 refl, s.1)
 
 pub line_reads : Reads LineText line_at
-unfolding line_at
-line_reads =
-    reads_as (then_reads (InTable actor_words) Acts (word_at actor_words) (λ a t. number_at 32 t >>= λ n. verb_of a n.0 n.1) (table_reads actor_words refl (actors.Reader, codes "r", inl (refl, refl))) acts_reads acts_some)
-    line_spelled line_unspelled
+line_reads = reads_as line_lang.reads line_spelled line_unspelled
 
 -- no bytes are a beginning that goes on
 pub no_line : line_at [] ≡ Err []

@@ -1,10 +1,10 @@
 -- A number and the byte that ends it are read exactly.
-use Rattle.schedule_text.proofs.Cited.{◌≡◌, ℕ, ◌+◌, ◌-◌, ◌*◌, ◌/◌, ◌%◌, ◌^◌, ◌<◌, ◌≤◌, Bool, true, false, cond, eqb, ltb, List, [], ◌∷◌, ◌++◌, Ok, Err, refl, sym, ap, subst, ◌∙◌, append_assoc, arith, inl, inr, ◌⊎◌, lit<, lit≤, ◌&&◌, ◌||◌, is_ascii_digit, decimal, eqb-true, eq-eqb, ltb-true, lt-ltb, nat_tests, decimal_digit, decimal_step, decimal_by_steps, append-nil}
+use Rattle.schedule_text.proofs.Cited.{and_parts, ◌≡◌, ℕ, ◌+◌, ◌-◌, ◌*◌, ◌/◌, ◌%◌, ◌^◌, ◌<◌, ◌≤◌, Bool, true, false, ltb, List, [], ◌∷◌, ◌++◌, Ok, Err, refl, sym, ap, subst, ◌∙◌, append_assoc, arith, inl, inr, ◌⊎◌, lit<, lit≤, ◌&&◌, is_ascii_digit, decimal, eqb-true, eq-eqb, ltb-true, lt-ltb, nat_tests, decimal_digit, decimal_step, decimal_by_steps, append-nil}
 use Rattle.schedule_text.specs.Reading.{Reading, is_end, digits_on, ended_number_at, number_at}
 use Rattle.schedule_text.specs.Grammar.{done}
 use Rattle.schedule_text.specs.Spelling.{IsNumber}
 use Rattle.schedule_text.proofs.Exact.{Opens, Fault, Found, Reads, Done, Then, ok, err, ok_is, err_is, not_both, reads_as, then_reads, done_reads}
-use Rattle.schedule_text.proofs.Tables.{chosen, both}
+use Rattle.schedule_text.proofs.Tables.{chosen}
 
 record GoesOn (room value b : ℕ) : Type 0 where
   digit : is_ascii_digit b ≡ true
@@ -27,17 +27,13 @@ abbrev may_go_on : ℕ → ℕ → ℕ → Bool
 may_go_on room value b = is_ascii_digit b && (ltb 0 value && ltb value room)
 
 goes_on : (room value b : ℕ) → may_go_on room value b ≡ true → GoesOn room value b
-goes_on room value b e =
-    let p = both (is_ascii_digit b) (ltb 0 value && ltb value room) e in
-    let q = both (ltb 0 value) (ltb value room) p.1 in
-    record { digit = p.0; some = ltb-true _ _ q.0; below = ltb-true _ _ q.1 }
+goes_on room value b e = grind (arith, and_parts, ltb-true)
 
 may : (room value b : ℕ) → GoesOn room value b → may_go_on room value b ≡ true
 may room value b g = rw (g.digit, lt-ltb _ _ g.some, lt-ltb _ _ g.below) refl
 
 false_or_true : (b : Bool) → (b ≡ true → ⊥) → b ≡ false
-false_or_true true n = absurd (n refl)
-false_or_true false n = refl
+false_or_true b n = grind arith
 
 not_end : (room b end other value : ℕ) → NoDigit end other → GoesOn room value b → is_end end other b ≡ false
 not_end room b end other value nd g = false_or_true (is_end end other b) (λ e. let p : true ≡ false = sym g.digit ∙ nd b e in cc)
@@ -48,14 +44,7 @@ record Turn (room value end other b : ℕ) (bs : List ℕ) (z : Reading (ℕ × 
 
 turn : (room value end other b : ℕ) (bs : List ℕ) → Turn room value end other b bs (digits_on room value end other (b ∷ bs))
 unfolding digits_on
-turn room value end other b bs =
-    elim (chosen (is_end end other b) (ok ((value, b), bs)) (cond (may_go_on room value b) (digits_on room (10 * value + (b - 48)) end other bs) (err (b ∷ bs))) (digits_on room value end other (b ∷ bs)) refl) [
-      | inl h ↦ record { case = inl (h.0, sym h.1) }
-      | inr h ↦ elim (chosen (may_go_on room value b) (digits_on room (10 * value + (b - 48)) end other bs) (err (b ∷ bs)) (digits_on room value end other (b ∷ bs)) h.1) [
-        | inl k ↦ record { case = inr (inl (goes_on room value b k.0, sym k.1)) }
-        | inr k ↦ record { case = inr (inr (λ e. let p : true ≡ false = sym e ∙ h.0 in cc, λ g. let p : true ≡ false = sym (may room value b g) ∙ k.0 in cc, sym k.1)) }
-      ]
-    ]
+turn room value end other b bs = grind (arith, chosen, goes_on, may)
 
 digits_found : (room value end other : ℕ) (text : List ℕ) (x : ℕ × ℕ) (rest : List ℕ) → digits_on room value end other text ≡ Ok (x, rest) → Found (DigitsText room value end other) text x rest
 unfolding digits_on
@@ -178,9 +167,7 @@ number_fault room end other (b ∷ bs) bad nd some e =
 
 number_again : (room end other : ℕ) (m : ℕ × ℕ) (text rest : List ℕ) → NoDigit end other → FirstText room end other m text → ended_number_at room end other (text ++ rest) ≡ Ok (m, rest)
 unfolding ended_number_at
-number_again room end other m text rest nd s =
-    let whole : text ++ rest ≡ s.first ∷ (s.digits.0 ++ m.1 ∷ rest) = rw (s.parts, s.digits.3) (ap (λ (t : List ℕ). s.first ∷ t) (append_assoc s.digits.0 (m.1 ∷ []) rest)) in
-    rw (whole, s.digit) (digits_again room (s.first - 48) end other m s.digits.0 rest nd s.digits.1 s.digits.2)
+number_again room end other m text rest nd s = grind (arith, append_assoc, digits_again)
 
 first_reads : (room end other : ℕ) → NoDigit end other → is_end end other end ≡ true → Reads (FirstText room end other) (ended_number_at room end other)
 first_reads room end other nd some = record {
@@ -202,11 +189,7 @@ digit_range : (b : ℕ) → is_ascii_digit b ≡ true → (48 ≤ b) × (b ≤ 5
 digit_range b e = grind (arith, nat_tests)
 
 decimal_more : (room n d : ℕ) → room ≤ 1000000000000000000 → GoesOn room n d → decimal (10 * n + (d - 48)) ≡ decimal n ++ d ∷ []
-decimal_more room n d most g =
-    let r = digit_range d g.digit in
-    let q : (10 * n + (d - 48)) / 10 ≡ n = omega (arith, r.0, r.1) in
-    let m : 48 + (10 * n + (d - 48)) % 10 ≡ d = omega (arith, r.0, r.1) in
-    decimal_step (10 * n + (d - 48)) (omega (arith, g.some)) (omega (arith, g.below, r.1, most)) ∙ rw (q, m) refl
+decimal_more room n d most g = grind (arith, digit_range, decimal_step)
 
 extends_decimal : (room n : ℕ) (ds : List ℕ) (m : ℕ) → room ≤ 1000000000000000000 → n < 10 * room → Extends room n ds m → (m < 10 * room) × (decimal m ≡ decimal n ++ ds)
 extends_decimal room n [] m most lt x = (rw (← x) lt, rw (← x) (sym (append-nil (decimal n))))
@@ -243,11 +226,7 @@ digits_of_number room = decimal_by_steps (Digits room)
     })
 
 number_spelled : (room end other : ℕ) → 0 < room → room ≤ 1000000000000000000 → (m : ℕ × ℕ) (text : List ℕ) → FirstText room end other m text → EndedText (10 * room) end other m text
-number_spelled room end other least most m text s =
-    let r = digit_range s.first s.digit in
-    let f = extends_decimal room (s.first - 48) s.digits.0 m.0 most (omega (arith, r.1, least)) s.digits.1 in
-    let one : decimal (s.first - 48) ≡ s.first ∷ [] = decimal_digit (s.first - 48) (omega (arith, r.1)) ∙ ap (λ (b : ℕ). b ∷ []) (omega (arith, r.0)) in
-    (f.0, s.digits.2, s.parts ∙ ap (λ (t : List ℕ). s.first ∷ t) s.digits.3 ∙ sym (ap (λ (t : List ℕ). t ++ m.1 ∷ []) (f.1 ∙ ap (λ (t : List ℕ). t ++ s.digits.0) one)))
+number_spelled room end other least most m text s = grind (arith, digit_range, extends_decimal, decimal_digit)
 
 number_unspelled : (room end other : ℕ) → room ≤ 1000000000000000000 → (m : ℕ × ℕ) (text : List ℕ) → EndedText (10 * room) end other m text → FirstText room end other m text
 number_unspelled room end other most m text s =
@@ -262,12 +241,8 @@ ended_reads room end other least most nd some = reads_as (first_reads room end o
 same_end : (end : ℕ) → is_end end end end ≡ true
 same_end end = rw (eq-eqb end end refl) refl
 
-or_same : (b : Bool) → (b || b) ≡ true → b ≡ true
-or_same true e = refl
-or_same false e = e
-
 pub is_that : (end e : ℕ) → is_end end end e ≡ true → e ≡ end
-is_that end e is = eqb-true e end (or_same (eqb e end) is)
+is_that end e is = grind (arith, eqb-true)
 
 ends_once : (end : ℕ) → is_ascii_digit end ≡ false → NoDigit end end
 ends_once end nd e is = ap is_ascii_digit (is_that end e is) ∙ nd
@@ -276,11 +251,7 @@ abbrev Plain : ℕ × ℕ → ℕ → List ℕ → Type 0
 Plain m = Done m.0
 
 plain_spelled : (end n : ℕ) (text : List ℕ) → Then (EndedText 1000000000 end end) Plain n text → NumberText end n text
-plain_spelled end n text s =
-    let m = s.0 in
-    let value : m.0 ≡ n = s.4.0 in
-    let whole : text ≡ decimal m.0 ++ m.1 ∷ [] = s.5 ∙ ap (λ (t : List ℕ). s.1 ++ t) s.4.1 ∙ append-nil s.1 ∙ s.3.2 in
-    (rw (← value) s.3.0, whole ∙ ap (λ (k : ℕ). decimal k ++ m.1 ∷ []) value ∙ ap (λ (k : ℕ). decimal n ++ k ∷ []) (is_that end m.1 s.3.1))
+plain_spelled end n text s = grind (arith, append-nil, is_that)
 
 plain_unspelled : (end n : ℕ) (text : List ℕ) → NumberText end n text → Then (EndedText 1000000000 end end) Plain n text
 plain_unspelled end n text s = ((n, end), text, [], (s.0, same_end end, s.1), (refl, refl), sym (append-nil text))

@@ -1,5 +1,5 @@
 -- What is printed of an answer is the text of its line, which tells the answer's events.
-use Rattle.schedule_text.proofs.Cited.{◌≡◌, Some, None, Result, Ok, Err, refl, append_assoc, Refusal, Events, Quiet, Wait, Blocked, Idle, told}
+use Rattle.schedule_text.proofs.Cited.{arith, ◌≡◌, Some, None, Result, Ok, Err, refl, append_assoc, Refusal, Events, Quiet, Wait, Blocked, Idle, told}
 use Rattle.world_state.specs.declared.line.Answer.{Answer}
 use Rattle.schedule_text.specs.Answers.{answer_line}
 use Rattle.schedule_text.specs.AnswerLines.{spelled, line_of, told_by}
@@ -14,9 +14,4 @@ answer_spelled (Ok Idle) = refl
 answer_spelled (Err e) = simp append_assoc
 
 pub answer_told : (a : Answer) → told_by (line_of (Ok a)) ≡ told a
-answer_told (Events first None) = refl
-answer_told (Events first (Some second)) = refl
-answer_told Quiet = refl
-answer_told Wait = refl
-answer_told Blocked = refl
-answer_told Idle = refl
+answer_told a = grind arith

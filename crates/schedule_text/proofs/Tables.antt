@@ -1,5 +1,5 @@
 -- A table of words, of which none begins another, is read exactly.
-use Rattle.schedule_text.proofs.Cited.{◌≡◌, ℕ, ◌≤◌, Bool, true, false, cond, eqb, ltb, List, [], ◌∷◌, ◌++◌, length, map, get_or, zero, suc, ◌<◌, Result, Ok, Err, refl, sym, ap, subst, ◌∙◌, append_assoc, arith, inl, inr, ◌⊎◌, ◌&&◌, eqb-true, eq-eqb, ltb-true, ltb-false, length-append, Bor}
+use Rattle.schedule_text.proofs.Cited.{and_parts, ◌≡◌, ℕ, ◌≤◌, Bool, true, false, cond, eqb, ltb, List, [], ◌∷◌, ◌++◌, length, map, get_or, zero, suc, ◌<◌, Result, Ok, Err, refl, sym, ap, subst, ◌∙◌, append_assoc, arith, inl, inr, ◌⊎◌, eqb-true, eq-eqb, ltb-true, ltb-false, length-append, Bor}
 use Rattle.schedule_text.specs.Reading.{Reading, word_from, further, or_else, word_on, word_at, differ, differs_from_all, is_prefix_free, value_row}
 use Rattle.schedule_text.proofs.Exact.{Opens, Fault, Found, Reads, ok_is, err_is, not_both}
 
@@ -73,22 +73,17 @@ abbrev pub InTable : {K : Type 0} → List (List ℕ × K) → K → List ℕ �
 InTable [] k w = ⊥
 InTable (e ∷ es) k w = ((e.0 ≡ w) × (e.1 ≡ k)) ⊎ InTable es k w
 
-pub both : (a b : Bool) → (a && b) ≡ true → (a ≡ true) × (b ≡ true)
-both true true e = (refl, refl)
-both true false e = absurd cc
-both false b e = absurd cc
-
 differs_there : {K : Type 0} (v : List ℕ) (es : List (List ℕ × K)) (k : K) (w : List ℕ) → differs_from_all v es ≡ true → InTable es k w → differ v w ≡ true
 differs_there v [] k w d i = absurd i
-differs_there v (e ∷ es) k w d (inl h) = subst (λ (x : List ℕ). differ v x ≡ true) h.0 (both (differ v e.0) (differs_from_all v es) d).0
-differs_there v (e ∷ es) k w d (inr h) = differs_there v es k w (both (differ v e.0) (differs_from_all v es) d).1 h
+differs_there v (e ∷ es) k w d (inl h) = subst (λ (x : List ℕ). differ v x ≡ true) h.0 (and_parts (differ v e.0) (differs_from_all v es) d).0
+differs_there v (e ∷ es) k w d (inr h) = differs_there v es k w (and_parts (differ v e.0) (differs_from_all v es) d).1 h
 
 word_again : {K : Type 0} (bad : List ℕ) (table : List (List ℕ × K)) (k : K) (w r : List ℕ) → is_prefix_free table ≡ true → InTable table k w → word_on bad table (w ++ r) ≡ Ok (k, r)
 unfolding word_on
 word_again bad [] k w r free i = absurd i
 word_again bad (e ∷ es) k w r free (inl h) = rw (← h.0, ← h.1, word_whole e.0 r) refl
 word_again bad (e ∷ es) k w r free (inr h) =
-    let b = both (differs_from_all e.0 es) (is_prefix_free es) free in
+    let b = and_parts (differs_from_all e.0 es) (is_prefix_free es) free in
     let f = word_differs e.0 w r (differs_there e.0 es k w b.0 h) in
     rw (f.1) (word_again (further bad f.0) es k w r b.1 h)
 

@@ -1,16 +1,18 @@
 -- What the steps of grace periods keep, and that what they tell may come, whoever asks.
-use Rattle.world.proofs.Cited.{◌≡◌, ◌≢◌, ◌⊎◌, ◌↔◌, ⊎_elim, ℕ, true≢false, inl, inr, ◌+◌, ◌^◌, ◌<◌, ◌≤◌, leb, ltb, cond, Bool, true, false, List, [], ◌∷◌, ◌++◌, length, slice_get, Option, Some, None, Result, Ok, Err, refl, sym, ap, ◌∙◌, subst, arith, ltb-true, leb-true, leb-false, cond_both, decide_number, SectionId, Refusal, Exhausted, at_number, State, AreAllowed, In, in_numbers, has_number_in, at_number_same, at_number_other, Layout, Action, Load, LoadGroup, StorePhase, StoreSeq, Finished, Turn, IsPresent, StoresInOrder, MayStore, present_after, even_below, cookie_for, SyncCore, turned, is_finished, Answer, Events, Quiet, Wait, Blocked, GraceState, Holder, new_reader, Plans, BoardView, told}
+use Rattle.world.proofs.Cited.{none-some, ◌≡◌, ◌≢◌, ◌⊎◌, ⊎_elim, ℕ, true≢false, ◌+◌, ◌^◌, ◌<◌, ◌≤◌, ltb, Bool, true, false, List, [], ◌∷◌, ◌++◌, length, slice_get, Option, Some, None, Result, Ok, Err, refl, sym, ap, ◌∙◌, subst, arith, ltb-true, leb-true, leb-false, cond_both, decide_number, SectionId, Refusal, Exhausted, at_number, State, AreAllowed, In, in_numbers, has_number_in, at_number_same, at_number_other, Layout, Action, Load, LoadGroup, StorePhase, StoreSeq, Finished, IsPresent, StoresInOrder, MayStore, present_after, even_below, cookie_for, SyncCore, is_finished, Answer, Events, Quiet, GraceState, Holder, new_reader, Plans, BoardView, told, after_all, nat_le, slice_set, Started, UpdaterState, UpdaterPlace, Idle, Change, Grace, changed, reader_at, readers_over, SyncStep, step_of}
 use Rattle.rcu_model.specs.declared.event.Event.TheVariants as events
-use Rattle.gp_memb.specs.declared.plan.Turn.TheVariants as turns
 use Rattle.call_rcu_worker.specs.declared.sync.SyncCore.TheVariants as core
-use Rattle.call_rcu_worker.specs.declared.sync.Told.TheVariants as what
-use Rattle.call_rcu_worker.specs.Sync.{telling, asked_with as asking}
 use Rattle.world.specs.declared.grace.GraceStep.{GraceStep}
-use Rattle.world.specs.Grace.{stepped, loaded_word, action_effect, lock_effect, done_with, plan_now, grace_row}
-use Rattle.world.proofs.Fence.{Work, Rests, Waits, Checks, Starts, Runs, Frees, Pending, RunsNone, Laws, Sets, Running, runs_no_group, cookie-above, cookie-near, cookie-even}
-use Rattle.world.proofs.Periods.{first_second, Part, Marks, reached_empty, part_asked, part_locked, part_answered, part_checked, part_freed, part_turned, part_begun, part_ended}
-use Rattle.world.proofs.State.{Asker, decide_asker, asker_of, core_work, work_of, holder_of, word_at, IsUnderWay, Kept, marks_of}
+use Rattle.world.specs.Grace.{loaded_word, action_effect, plan_now, grace_row, is_blocked, is_waiting, sync_place, place_at}
+use Rattle.world.proofs.Fence.{Work, Rests, Waits, Checks, Starts, Runs, Frees, Pending, RunsNone, Laws, Sets, Running, runs_no_group, cookie-above, cookie-near, cookie-even, Holds, StartsNone, asks_set, asks_answered, holding, first_second, Part, Marks, reached_empty, part_asked, part_turned, part_begun, part_ended, ended_empty, part_set, same_ask}
+use Rattle.world.proofs.State.{Asker, decide_asker, asker_of, core_work, work_of, holder_of, word_at, Kept, marks_of, Syncing, Polling, place_work, started_work, UpdaterKept, work_set, started_set}
 use Rattle.world.proofs.KeptReaders.{entry_is, log_longer, log_one}
+use Rattle.world.proofs.GraceRows.{next, TurnRow, tells, effect, Asking, Blocking, Standing, Locking, Finding, Needing, Going, Begins, GoesOn, Ending, Freeing, Resting, turn_of}
+use Rattle.world.specs.Lines.{grace_change}
+use Rattle.world.proofs.Callbacks.{Callbacks, IsPlain, OwesAll, plainly, AreOther}
+use Rattle.world.proofs.KeptPublishing.{There, places_set}
+use Rattle.call_rcu_worker.specs.declared.sync.SyncStep.TheVariants as due
+use Rattle.world_state.specs.declared.updater.Holder.TheVariants as holder
 
 module _ {P : Type 0} (plans : Plans P) (layout : Layout) (slots : ℕ) (laws : Laws plans layout slots) (w : BoardView P) (now : State) (k : Kept plans layout slots laws w now) where
   abbrev words : ℕ → ℕ
@@ -25,22 +27,23 @@ module _ {P : Type 0} (plans : Plans P) (layout : Layout) (slots : ℕ) (laws : 
   marks : Marks plans layout slots laws decide_asker words w.grace.word now.sections
   marks = marks_of plans layout slots laws w now k
 
+  -- the machine behind what is told
+  abbrev pub later : Answer → State
+  later answer = after_all now (told answer)
+
   -- the asker's work is set, with what is kept of grace periods
-  pub record StepKept (y : Asker) (work : Work P) (grace : GraceState) (answer : Answer) (asked answered : List ℕ) (awaited : ℕ → List SectionId) : Type 0 where
+  pub record StepKept (y : Asker) (work : Work P) (grace : GraceState) (answer : Answer) : Type 0 where
     pub allowed : AreAllowed now (told answer)
     pub rises : plans.qsbr ≡ true → w.grace.word ≤ grace.word
     pub phase_low : plans.qsbr ≡ false → grace.word ≤ 1
     pub seq_low : grace.seq ≤ 2 ^ 62 + 2
     pub asks_low : grace.asks ≤ length (w.log ++ told answer)
-    pub part : (works' : Asker → Work P) → Sets works works' y work → PartOf (holder_of grace.holder) works' grace.asks grace.seq grace.word asked answered awaited
+    pub part : (works' : Asker → Work P) → Sets works works' y work → PartOf (holder_of grace.holder) works' grace.asks grace.seq grace.word (later answer).asked (later answer).answered (later answer).asked_sections
 
   steady : plans.qsbr ≡ true → w.grace.word ≤ w.grace.word
   steady q = omega arith
 
-  quiet_asks : w.grace.asks ≤ length (w.log ++ told Quiet)
-  quiet_asks = log_longer w.log [] w.grace.asks k.asks_low
-
-  pub pending_at : (y : Asker) (v : Work P) (a c : ℕ) → works y ≡ v → Pending v a c → Pending (works y) a c
+  pending_at : (y : Asker) (v : Work P) (a c : ℕ) → works y ≡ v → Pending v a c → Pending (works y) a c
   pending_at y v a c is h = subst (λ (z : Work P). Pending z a c) (sym is) h
 
   -- an ask may be answered
@@ -50,9 +53,10 @@ module _ {P : Type 0} (plans : Plans P) (layout : Layout) (slots : ℕ) (laws : 
       ((has_number_in now.asked ask p.0, (λ h. p.1 (in_numbers now.answered ask h)), none), tt)
 
   -- an ask is made, with the cookie of the present sequence number
-  pub asked_kept : (y : Asker) → RunsNone (works y) → w.grace.seq < 2 ^ 62 →
-      StepKept y (Waits (w.grace.asks + 1) (even_below (w.grace.seq + 3))) (record w.grace { asks = w.grace.asks + 1 }) (Events (events.Ask (w.grace.asks + 1)) None)
-      ((w.grace.asks + 1) ∷ now.asked) now.answered (at_number (w.grace.asks + 1) now.sections now.asked_sections)
+  abbrev Asked : Asker → ℕ → Type 0
+  Asked y c = StepKept y (Waits (w.grace.asks + 1) c) (record w.grace { asks = w.grace.asks + 1 }) (Events (events.Ask (w.grace.asks + 1)) None)
+
+  asked_kept : (y : Asker) → RunsNone (works y) → w.grace.seq < 2 ^ 62 → Asked y (even_below (w.grace.seq + 3))
   asked_kept y none below = record {
     allowed = ((λ h. fresh (in_numbers now.asked ask h)), tt);
     rises = steady;
@@ -83,42 +87,36 @@ module _ {P : Type 0} (plans : Plans P) (layout : Layout) (slots : ℕ) (laws : 
           (λ (n : a ≢ ask). k.part.awaited_open a s (subst (λ (l : List SectionId). In l s) (at_number_other ask a now.sections now.asked_sections n) h))
           (decide_number a ask)
 
-  -- an ask whose cookie is reached is answered
-  pub reached_none : (y : Asker) (ask c : ℕ) → Pending (works y) ask c → c ≤ w.grace.seq → now.asked_sections ask ≡ []
-  reached_none y ask c pending up = reached_empty plans layout slots laws decide_asker works words w.grace.seq now.asked_sections y ask c k.part.fenced pending up
+  -- with whatever cookie the present sequence number gives
+  pub asked_with : (y : Asker) → RunsNone (works y) → (c : ℕ) → cookie_for w.grace.seq ≡ Ok c → Asked y c
+  asked_with y none c is = cond_both (ltb w.grace.seq (2 ^ 62)) (Ok (even_below (w.grace.seq + 3))) (Err Exhausted) (λ (r : Result ℕ Refusal). r ≡ Ok c → Asked y c)
+      (λ below e. let same : even_below (w.grace.seq + 3) ≡ c = cc in subst (Asked y) same (asked_kept y none (ltb-true w.grace.seq (2 ^ 62) below)))
+      (λ late e. absurd (cc)) is
 
-  pub reached_kept : (y : Asker) (work : Work P) (ask c : ℕ) → Pending (works y) ask c → c ≤ w.grace.seq →
-      ((works' : Asker → Work P) → Sets works works' y work → PartOf (holder_of w.grace.holder) works' w.grace.asks w.grace.seq w.grace.word now.asked (ask ∷ now.answered) now.asked_sections) →
-      StepKept y work w.grace (Events (events.Answer ask) None) now.asked (ask ∷ now.answered) now.asked_sections
-  reached_kept y work ask c pending up part = record {
-    allowed = answer_allowed y ask c pending (reached_none y ask c pending up);
+  -- from one work to another with the same ask or with none, neither of which runs a plan
+  moved : (held : Option Asker) (y : Asker) (v u : Work P) → works y ≡ v → RunsNone v → RunsNone u → ((a c : ℕ) → Pending u a c → Pending v a c) → ((b d : ℕ) → u ≡ Starts b d → w.grace.seq < d) → (Holds u → held ≡ Some y) →
+      ((z : Asker) → z ≢ y → Holds (works z) → held ≡ Some z) → (works' : Asker → Work P) → Sets works works' y u → PartOf held works' w.grace.asks w.grace.seq w.grace.word now.asked now.answered now.asked_sections
+  moved held y v u is from to less starts mine others works' s =
+      part_set plans layout slots laws decide_asker (holder_of w.grace.holder) held works works' words w.grace.asks w.grace.seq w.grace.word now.asked now.answered now.answered now.asked_sections now.sections y v u is s from to less starts mine others
+      (asks_set plans layout slots laws decide_asker works works' w.grace.asks w.grace.seq now.asked now.answered y u s (same_ask plans layout slots laws decide_asker works y v u is less) k.part.asks_kept) k.part
+
+  -- an ask whose cookie is reached is answered
+  pub reached_none : (y : Asker) (v : Work P) (ask c : ℕ) → works y ≡ v → Pending v ask c → c ≤ w.grace.seq → now.asked_sections ask ≡ []
+  reached_none y v ask c is pending up = reached_empty plans layout slots laws decide_asker works words w.grace.seq now.asked_sections y ask c k.part.fenced (pending_at y v ask c is pending) up
+
+  pub reached_kept : (y : Asker) (v u : Work P) (ask c : ℕ) → works y ≡ v → RunsNone v → RunsNone u → ((a d : ℕ) → ¬ Pending u a d) → StartsNone u → (Holds u → holder_of w.grace.holder ≡ Some y) → Pending v ask c → c ≤ w.grace.seq →
+      StepKept y u w.grace (Events (events.Answer ask) None)
+  reached_kept y v u ask c is from to none starts mine pending up = record {
+    allowed = answer_allowed y ask c (pending_at y v ask c is pending) (reached_none y v ask c is pending up);
     rises = steady;
     phase_low = k.phase_low;
     seq_low = k.seq_low;
     asks_low = log_longer w.log (events.Answer ask ∷ []) w.grace.asks k.asks_low;
-    part = part;
+    part = λ works' s.
+        part_set plans layout slots laws decide_asker (holder_of w.grace.holder) (holder_of w.grace.holder) works works' words w.grace.asks w.grace.seq w.grace.word now.asked now.answered (ask ∷ now.answered) now.asked_sections now.sections y v u is s from to
+        (λ a d h. absurd (none a d h)) (λ a d e. absurd (starts a d e)) mine (λ z _ h. k.part.grace_kept.held z h)
+        (asks_answered plans layout slots laws decide_asker works works' w.grace.asks w.grace.seq y u ask c now.asked now.answered s none (pending_at y v ask c is pending) k.part.asks_kept) k.part;
   }
-
-  -- with whatever cookie the present sequence number gives
-  pub asked_with : (y : Asker) → RunsNone (works y) → (c : ℕ) → cookie_for w.grace.seq ≡ Ok c →
-      StepKept y (Waits (w.grace.asks + 1) c) (record w.grace { asks = w.grace.asks + 1 }) (Events (events.Ask (w.grace.asks + 1)) None) ((w.grace.asks + 1) ∷ now.asked) now.answered (at_number (w.grace.asks + 1) now.sections now.asked_sections)
-  asked_with y none c is = by (ltb w.grace.seq (2 ^ 62)) refl is
-    where
-      by : (b : Bool) → ltb w.grace.seq (2 ^ 62) ≡ b → cond b (Ok (even_below (w.grace.seq + 3))) (Err Exhausted) ≡ Ok c →
-          StepKept y (Waits (w.grace.asks + 1) c) (record w.grace { asks = w.grace.asks + 1 }) (Events (events.Ask (w.grace.asks + 1)) None) ((w.grace.asks + 1) ∷ now.asked) now.answered (at_number (w.grace.asks + 1) now.sections now.asked_sections)
-      by true below e =
-          let same : even_below (w.grace.seq + 3) ≡ c = cc in
-          subst (λ d. StepKept y (Waits (w.grace.asks + 1) d) (record w.grace { asks = w.grace.asks + 1 }) (Events (events.Ask (w.grace.asks + 1)) None) ((w.grace.asks + 1) ∷ now.asked) now.answered (at_number (w.grace.asks + 1) now.sections now.asked_sections)) same
-          (asked_kept y none (ltb-true w.grace.seq (2 ^ 62) below))
-      by false late e = absurd (cc)
-
-  -- what is owed of a step of this ask, by what comes of it
-  abbrev pub IsOn : Asker → SyncCore P → Type 0
-  IsOn y (core.Checks c) = Unit {0}
-  IsOn y (core.Starts c) = Unit {0}
-  IsOn y (core.Runs c p) = Unit {0}
-  IsOn y core.Done = works y ≡ Frees
-  IsOn y _ = ⊥
 
   -- the present phase is one, or the present number is any
   pub is_present : IsPresent plans.qsbr w.grace.word
@@ -128,249 +126,237 @@ module _ {P : Type 0} (plans : Plans P) (layout : Layout) (slots : ℕ) (laws : 
       by true q = subst (λ b. IsPresent b w.grace.word) (sym q) tt
       by false q = subst (λ b. IsPresent b w.grace.word) (sym q) (k.phase_low q)
 
-  pub record Owing (y : Asker) (ask : ℕ) (Owed : Result (GraceStep P) Refusal → Type 0) : Type 0 where
-    pub refused : (e : Refusal) → Owed (Err e)
-    pub stays : (place : SyncCore P) (grace : GraceState) → Owed (Ok (record { core = place; grace = grace; answer = Wait }))
-    pub blocks : (place : SyncCore P) (grace : GraceState) → Owed (Ok (record { core = place; grace = grace; answer = Blocked }))
-    pub goes : (place : SyncCore P) (grace : GraceState) → IsOn y place → ((a c : ℕ) → Pending (core_work ask place) a c → Pending (works y) a c) →
-        StepKept y (core_work ask place) grace Quiet now.asked now.answered now.asked_sections → Owed (Ok (record { core = place; grace = grace; answer = Quiet }))
-    pub asks : (c : ℕ) (grace : GraceState) → works y ≡ Rests → ask ≡ w.grace.asks + 1 →
-        StepKept y (Waits ask c) grace (Events (events.Ask ask) None) (ask ∷ now.asked) now.answered (at_number ask now.sections now.asked_sections) →
-        Owed (Ok (record { core = core.Waits c; grace = grace; answer = Events (events.Ask ask) None }))
-    pub answers : (c : ℕ) (grace : GraceState) → Pending (works y) ask c → c ≤ grace.seq → now.asked_sections ask ≡ [] →
-        StepKept y Frees grace (Events (events.Answer ask) None) now.asked (ask ∷ now.answered) now.asked_sections →
-        Owed (Ok (record { core = core.Frees; grace = grace; answer = Events (events.Answer ask) None }))
+  finished_from : (a : Action) → is_finished a ≡ true → a ≡ Finished
+  finished_from Finished e = refl
+  finished_from _ e = absurd (true≢false (sym e))
 
-  module _ (me : Holder) (ask : ℕ) (Owed : Result (GraceStep P) Refusal → Type 0) (o : Owing (asker_of me) ask Owed) where
+  module _ (me : Holder) (ask : ℕ) where
     abbrev y : Asker
     y = asker_of me
-
-    rests_runs : (v : Work P) → v ≡ Rests → RunsNone v
-    rests_runs v e a d p is = no (sym e ∙ is)
-      where
-        no : (let z : Work P = Rests in z) ≡ Runs a d p → ⊥
-        no f = cc
-
-    -- the ask
-    pub owes_ask : works y ≡ Rests → ask ≡ w.grace.asks + 1 → Owed (grace_row plans w me ask core.Asks)
-    owes_ask rests is = by (cookie_for w.grace.seq) refl
-      where
-        by : (cookie : Result ℕ Refusal) → cookie_for w.grace.seq ≡ cookie → Owed (stepped (record w.grace { asks = ask }) ask (asking cookie))
-        by (Err e) f = o.refused e
-        by (Ok c) f = o.asks c (record w.grace { asks = ask }) rests is
-            (subst (λ n. StepKept y (Waits n c) (record w.grace { asks = n }) (Events (events.Ask n) None) (n ∷ now.asked) now.answered (at_number n now.sections now.asked_sections)) (sym is) (asked_with y (rests_runs (works y) rests) c f))
 
     -- a step that tells nothing
     quietly : (work : Work P) (grace : GraceState) → (plans.qsbr ≡ true → w.grace.word ≤ grace.word) → (plans.qsbr ≡ false → grace.word ≤ 1) → grace.seq ≤ 2 ^ 62 + 2 → grace.asks ≡ w.grace.asks →
         ((works' : Asker → Work P) → Sets works works' y work → PartOf (holder_of grace.holder) works' grace.asks grace.seq grace.word now.asked now.answered now.asked_sections) →
-        StepKept y work grace Quiet now.asked now.answered now.asked_sections
+        StepKept y work grace Quiet
     quietly work grace rises phase low same part = record {
       allowed = tt;
       rises = rises;
       phase_low = phase;
       seq_low = low;
-      asks_low = subst (λ n. n ≤ length (w.log ++ told Quiet)) (sym same) quiet_asks;
+      asks_low = subst (λ n. n ≤ length (w.log ++ told Quiet)) (sym same) (log_longer w.log [] w.grace.asks k.asks_low);
       part = part;
     }
 
-    same_pending : (v : Work P) (a c b d : ℕ) → works y ≡ v → Pending v a c → (a ≡ b) × (c ≡ d) → Pending (works y) b d
-    same_pending v a c b d is h e = subst (λ n. Pending (works y) n d) e.0 (subst (λ n. Pending (works y) a n) e.1 (pending_at y v a c is h))
-
-    -- the lock
-    owes_lock : (c : ℕ) → works y ≡ Waits ask c → (held : Option Holder) → w.grace.holder ≡ held → Owed (done_with plans w ask (core.Waits c) (lock_effect w me held))
-    owes_lock c is (Some other) free = o.blocks (core.Waits c) w.grace
-    owes_lock c is None free = o.goes (core.Checks c) (record w.grace { holder = Some me }) tt
-        (λ b d e. same_pending (Waits ask c) ask c b d is (refl, refl) e)
-        (quietly (Checks ask c) (record w.grace { holder = Some me }) steady k.phase_low k.seq_low refl
-        (λ works' s. part_locked plans layout slots laws decide_asker works works' words w.grace.asks w.grace.seq w.grace.word now.asked now.answered now.asked_sections now.sections y ask c is s
-        (subst (λ h. PartOf (holder_of h) works w.grace.asks w.grace.seq w.grace.word now.asked now.answered now.asked_sections) free k.part)))
-
-    -- the check
-    owes_check : (c : ℕ) → works y ≡ Checks ask c → Owed (grace_row plans w me ask (core.Checks c))
-    owes_check c is = cond_both (leb c w.grace.seq) (telling {P = P} what.Answered core.Frees) (telling what.Quiet (core.Starts c)) (λ t. Owed (stepped w.grace ask t))
-        (λ e. reached (leb-true c w.grace.seq e)) (λ e. needed (leb-false c w.grace.seq e))
-      where
-        pending : Pending (works y) ask c
-        pending = pending_at y (Checks ask c) ask c is (refl, refl)
-
-        reached : c ≤ w.grace.seq → Owed (stepped w.grace ask (telling what.Answered core.Frees))
-        reached up = o.answers c w.grace pending up (reached_none y ask c pending up)
-            (reached_kept y Frees ask c pending up
-            (λ works' s. part_answered plans layout slots laws decide_asker (holder_of w.grace.holder) works works' words w.grace.asks w.grace.seq w.grace.word now.asked now.answered now.asked_sections now.sections y ask c is s k.part))
-
-        needed : w.grace.seq < c → Owed (stepped w.grace ask (telling what.Quiet (core.Starts c)))
-        needed low = o.goes (core.Starts c) w.grace tt (λ b d e. same_pending (Checks ask c) ask c b d is (refl, refl) e)
-            (quietly (Starts ask c) w.grace steady k.phase_low k.seq_low refl
-            (λ works' s. part_checked plans layout slots laws decide_asker (holder_of w.grace.holder) works works' words w.grace.asks w.grace.seq w.grace.word now.asked now.answered now.asked_sections now.sections y ask c is s low k.part))
-
-    -- the lock is freed
-    owes_free : works y ≡ Frees → Owed (grace_row plans w me ask core.Frees)
-    owes_free is = o.goes core.Done (record w.grace { holder = None }) is (λ b d h. absurd h)
-        (quietly Rests (record w.grace { holder = None }) steady k.phase_low k.seq_low refl
-        (λ works' s. part_freed plans layout slots laws decide_asker (holder_of w.grace.holder) works works' words w.grace.asks w.grace.seq w.grace.word now.asked now.answered now.asked_sections now.sections y is s k.part))
-
-    -- a turn of a plan: it waits, or is finished, or goes on
-    owes_turn : (grace : GraceState) (c : ℕ) (p q : P) → (is_finished (plans.action q) ≡ true → Owed (stepped grace ask (telling what.Answered core.Frees))) → (is_finished (plans.action q) ≡ false → Owed (stepped grace ask (telling what.Quiet (core.Runs c q)))) →
-        (turn : Turn) → Owed (stepped grace ask (turned plans.action c p q turn))
-    owes_turn grace c p q ends goes turns.Wait = o.stays (core.Runs c p) grace
-    owes_turn grace c p q ends goes turns.Step = cond_both (is_finished (plans.action q)) (telling {P = P} what.Answered core.Frees) (telling what.Quiet (core.Runs c q)) (λ t. Owed (stepped grace ask t)) ends goes
-
-    finished_from : (a : Action) → is_finished a ≡ true → a ≡ Finished
-    finished_from Finished e = refl
-    finished_from _ e = absurd (true≢false (sym e))
-
     -- the first turn
-    owes_begin : (c : ℕ) → works y ≡ Starts ask c → Owed (grace_row plans w me ask (core.Starts c))
-    owes_begin c is = subst (λ a. Owed (done_with plans w ask (core.Starts c) (Some (record (action_effect w a) { plan = Some p })))) (sym first) (owes_turn (record w.grace { seq = seq + 1 }) c p (plans.taken p 0) ends goes (plans.turn p 0))
-      where
-        seq : ℕ
-        seq = w.grace.seq
+    module _ (c : ℕ) (is : works y ≡ Starts ask c) where
+      abbrev p : P
+      p = plan_now plans w
 
-        p : P
-        p = plan_now plans w
+      same : plan_now plans w ≡ plans.made layout slots w.grace.seq w.grace.word
+      same = ap (λ l. plans.made l (length w.readers) w.grace.seq w.grace.word) k.shape.laid ∙ ap (λ n. plans.made layout n w.grace.seq w.grace.word) k.shape.sized
 
-        same : plan_now plans w ≡ plans.made layout slots seq w.grace.word
-        same = ap (λ l. plans.made l (length w.readers) seq w.grace.word) k.shape.laid ∙ ap (λ n. plans.made layout n seq w.grace.word) k.shape.sized
+      order : StoresInOrder plans.action plans.taken w.grace.seq p
+      order = laws.all.keeps.order w.grace.seq w.grace.word p (subst (laws.begun w.grace.seq w.grace.word) (sym same) (laws.all.made w.grace.seq w.grace.word))
 
-        order : StoresInOrder plans.action plans.taken seq p
-        order = laws.all.keeps.order seq w.grace.word p (subst (laws.begun seq w.grace.word) (sym same) (laws.all.made seq w.grace.word))
+      -- which is not the last one
+      pub begun_goes : (loaded : ℕ) → is_finished (plans.action (plans.taken p loaded)) ≡ true → ⊥
+      begun_goes loaded e = first_second w.grace.seq (sym order.first ∙ (order.last [] loaded (λ f. cc (sym order.first ∙ f))).0 (finished_from (plans.action (plans.taken p loaded)) e))
 
-        first : plans.action p ≡ StoreSeq (seq + 1)
-        first = order.first
+      low : w.grace.seq + 1 ≤ 2 ^ 62 + 2
+      low = omega (arith, k.part.grace_kept.starts y ask c is, (k.part.asks_kept.pending y ask c (pending_at y (Starts ask c) ask c is (refl, refl))).4)
 
-        ends : is_finished (plans.action (plans.taken p 0)) ≡ true → Owed (stepped (record w.grace { seq = seq + 1 }) ask (telling what.Answered core.Frees))
-        ends e = absurd (first_second seq (sym first ∙ (order.last [] 0 (λ f. cc (sym first ∙ f))).0 (finished_from (plans.action (plans.taken p 0)) e)))
-
-        low : seq + 1 ≤ 2 ^ 62 + 2
-        low =
-            let below = k.part.grace_kept.starts y ask c is in
-            let bound = (k.part.asks_kept.pending y ask c (pending_at y (Starts ask c) ask c is (refl, refl))).4 in
-            omega (arith, below, bound)
-
-        goes : is_finished (plans.action (plans.taken p 0)) ≡ false → Owed (stepped (record w.grace { seq = seq + 1 }) ask (telling what.Quiet (core.Runs c (plans.taken p 0))))
-        goes e = o.goes (core.Runs c (plans.taken p 0)) (record w.grace { seq = seq + 1 }) tt (λ b d f. same_pending (Starts ask c) ask c b d is (refl, refl) f)
-            (quietly (Runs ask c (plans.taken p 0)) (record w.grace { seq = seq + 1 }) steady k.phase_low low refl
-            (λ works' s. part_begun plans layout slots laws decide_asker (holder_of w.grace.holder) works works' words w.grace.asks seq w.grace.word now.asked now.answered now.asked_sections now.sections y ask c is
-            (subst (λ (z : P). Sets works works' y (Runs ask c (plans.taken z 0))) same s) marks is_present k.part))
+      begun : StepKept y (Runs ask c (next plans w p)) (effect plans w p).grace Quiet
+      begun = subst (λ a. StepKept y (Runs ask c (plans.taken p (action_effect {P = P} w a).loaded)) (action_effect {P = P} w a).grace Quiet) (sym order.first)
+          (quietly (Runs ask c (plans.taken p 0)) (record w.grace { seq = w.grace.seq + 1 }) steady k.phase_low low refl
+          (λ works' s. part_begun plans layout slots laws decide_asker (holder_of w.grace.holder) works works' words w.grace.asks w.grace.seq w.grace.word now.asked now.answered now.asked_sections now.sections y ask c is
+          (subst (λ (z : P). Sets works works' y (Runs ask c (plans.taken z 0))) same s) marks is_present k.part))
 
     module _ (c : ℕ) (p : P) (is : works y ≡ Runs ask c p) where
       running : Running plans layout slots laws w.grace.seq w.grace.word c p
       running = k.part.grace_kept.running y ask c p is
 
-      pending : Pending (works y) ask c
-      pending = pending_at y (Runs ask c p) ask c is (refl, refl)
-
-      last : (loaded : ℕ) → (plans.action (plans.taken p loaded) ≡ Finished) ↔ (plans.action p ≡ StoreSeq (running.from + 2))
-      last loaded =
+      -- the last turn alone stores the second number
+      last : (loaded : ℕ) → is_finished (plans.action (plans.taken p loaded)) ≡ true → plans.action p ≡ StoreSeq (running.from + 2)
+      last loaded e =
           let r = running in
-          let l = (laws.all.keeps.order r.from r.word r.plan r.begun).last (r.load ∷ r.loads) loaded (λ f. r.goes_on (ap plans.action r.is ∙ f)) in (
-            (λ e. ap plans.action r.is ∙ l.0 (ap (λ q. plans.action (plans.taken q loaded)) (sym r.is) ∙ e)),
-            (λ e. ap (λ q. plans.action (plans.taken q loaded)) r.is ∙ l.1 (ap plans.action (sym r.is) ∙ e)),
-          )
+          let l = (laws.all.keeps.order r.from r.word r.plan r.begun).last (r.load ∷ r.loads) loaded (λ f. r.goes_on (ap plans.action r.is ∙ f)) in
+          ap plans.action r.is ∙ l.0 (ap (λ q. plans.action (plans.taken q loaded)) (sym r.is) ∙ finished_from (plans.action (plans.taken p loaded)) e)
+
+      stores_last : (value : ℕ) → plans.action p ≡ StoreSeq value → plans.action (plans.taken p 0) ≡ Finished
+      stores_last value stores =
+          let r = running in
+          let l = (laws.all.keeps.order r.from r.word r.plan r.begun).last (r.load ∷ r.loads) 0 (λ f. r.goes_on (ap plans.action r.is ∙ f)) in
+          let which = (laws.all.keeps.order r.from r.word r.plan r.begun).second r.load value r.loads (ap plans.action (sym r.is) ∙ stores) in
+          ap (λ q. plans.action (plans.taken q 0)) r.is ∙ l.1 (ap plans.action (sym r.is) ∙ stores ∙ ap StoreSeq which)
 
       -- a turn that stores no sequence number
-      owes_middle : (grace : GraceState) (loaded : ℕ) → ((value : ℕ) → plans.action p ≢ StoreSeq value) → ((slot : ℕ) → plans.action p ≡ Load slot → loaded ≡ words slot) →
-          grace.word ≡ present_after w.grace.word (plans.action p) → (plans.qsbr ≡ true → w.grace.word ≤ grace.word) → (plans.qsbr ≡ true → grace.word ≤ w.grace.seq) → (plans.qsbr ≡ false → grace.word ≤ 1) →
-          grace.seq ≡ w.grace.seq → grace.asks ≡ w.grace.asks → grace.holder ≡ w.grace.holder →
-          Owed (stepped grace ask (turned plans.action c p (plans.taken p loaded) (plans.turn p loaded)))
-      owes_middle grace loaded none loads stored rises low phase same_seq same_asks same_holder = owes_turn grace c p (plans.taken p loaded) ends goes (plans.turn p loaded)
+      turns_on : (word loaded : ℕ) → ((value : ℕ) → plans.action p ≢ StoreSeq value) → ((slot : ℕ) → plans.action p ≡ Load slot → loaded ≡ words slot) → word ≡ present_after w.grace.word (plans.action p) →
+          (plans.qsbr ≡ true → w.grace.word ≤ word) → (plans.qsbr ≡ true → word ≤ w.grace.seq) → (plans.qsbr ≡ false → word ≤ 1) → StepKept y (Runs ask c (plans.taken p loaded)) (record w.grace { word = word }) Quiet
+      turns_on word loaded none loads stored rises low phase = quietly (Runs ask c (plans.taken p loaded)) (record w.grace { word = word }) rises phase k.seq_low refl
+          (λ works' s. part_turned plans layout slots laws decide_asker (holder_of w.grace.holder) works works' words w.grace.asks w.grace.seq w.grace.word word now.asked now.answered now.asked_sections now.sections y ask c p loaded is
+          s none loads stored low k.part)
+
+      middle : (a : Action) → plans.action p ≡ a → is_finished (plans.action (plans.taken p (action_effect {P = P} w a).loaded)) ≡ false → StepKept y (Runs ask c (plans.taken p (action_effect {P = P} w a).loaded)) (action_effect {P = P} w a).grace Quiet
+      middle (Load slot) does more = turns_on w.grace.word (loaded_word (slice_get w.readers slot)) (λ v e. cc (sym does ∙ e)) (λ s e. entry_is loaded_word w.readers slot new_reader refl ∙ ap words (cc (sym does ∙ e)))
+          (sym (ap (present_after w.grace.word) does)) steady (λ q. k.part.grace_kept.number_low q) k.phase_low
+      middle (StorePhase value) does more = turns_on value 0 (λ v e. cc (sym does ∙ e)) (λ s e. cc (sym does ∙ e)) (sym (ap (present_after w.grace.word) does)) (λ q. subst (λ n. n ≤ value) running.present (laws.all.keeps.rises p value q does))
+          (λ q. let next = may true q in let l = (running.low q).0 in omega (arith, next, l, running.odd)) (may false)
         where
-          ends : is_finished (plans.action (plans.taken p loaded)) ≡ true → Owed (stepped grace ask (telling what.Answered core.Frees))
-          ends e = absurd (none (running.from + 2) ((last loaded).0 (finished_from (plans.action (plans.taken p loaded)) e)))
-
-          moved : (works' : Asker → Work P) → Sets works works' y (Runs ask c (plans.taken p loaded)) → PartOf (holder_of grace.holder) works' grace.asks grace.seq grace.word now.asked now.answered now.asked_sections
-          moved works' s =
-              subst (λ h. PartOf (holder_of h) works' grace.asks grace.seq grace.word now.asked now.answered now.asked_sections) (sym same_holder)
-              (subst (λ n. PartOf (holder_of w.grace.holder) works' n grace.seq grace.word now.asked now.answered now.asked_sections) (sym same_asks)
-              (subst (λ n. PartOf (holder_of w.grace.holder) works' w.grace.asks n grace.word now.asked now.answered now.asked_sections) (sym same_seq)
-              (part_turned plans layout slots laws decide_asker (holder_of w.grace.holder) works works' words w.grace.asks w.grace.seq w.grace.word grace.word now.asked now.answered now.asked_sections now.sections y ask c p loaded is
-              s none loads stored low k.part)))
-
-          goes : is_finished (plans.action (plans.taken p loaded)) ≡ false → Owed (stepped grace ask (telling what.Quiet (core.Runs c (plans.taken p loaded))))
-          goes e = o.goes (core.Runs c (plans.taken p loaded)) grace tt (λ b d f. same_pending (Runs ask c p) ask c b d is (refl, refl) f)
-              (quietly (Runs ask c (plans.taken p loaded)) grace rises phase (subst (λ n. n ≤ 2 ^ 62 + 2) (sym same_seq) k.seq_low) same_asks moved)
+          may : (b : Bool) → plans.qsbr ≡ b → MayStore b running.word value
+          may b q = let r = running in subst (λ (b : Bool). MayStore b r.word value) q (laws.all.keeps.stores r.from r.word r.plan r.begun (r.load ∷ r.loads) value (ap plans.action (sym r.is) ∙ does))
+      middle (StoreSeq value) does more = absurd (true≢false (sym (ap is_finished (stores_last value does)) ∙ more))
+      middle (LoadGroup group) does more = absurd (runs_no_group plans layout slots laws w.grace.seq w.grace.word c p running group does)
+      middle Finished does more = absurd (running.goes_on does)
 
       -- the last turn
-      owes_last : (value : ℕ) → plans.action p ≡ StoreSeq value → Owed (stepped (record w.grace { seq = value }) ask (turned plans.action c p (plans.taken p 0) (plans.turn p 0)))
-      owes_last value stores = owes_turn (record w.grace { seq = value }) c p (plans.taken p 0) ends goes (plans.turn p 0)
+      ended : (a : Action) → plans.action p ≡ a → is_finished (plans.action (plans.taken p (action_effect {P = P} w a).loaded)) ≡ true →
+          (now.asked_sections ask ≡ []) × (c ≤ (action_effect {P = P} w a).grace.seq) × StepKept y Frees (action_effect {P = P} w a).grace (Events (events.Answer ask) None)
+      ended (StoreSeq value) does e = (
+        none,
+        omega (arith, running.cookie, which),
+        record {
+          allowed = answer_allowed y ask c pending none;
+          rises = steady;
+          phase_low = k.phase_low;
+          seq_low = omega (arith, (k.part.asks_kept.pending y ask c pending).4, running.cookie, which);
+          asks_low = log_longer w.log (events.Answer ask ∷ []) w.grace.asks k.asks_low;
+          part = part_ended plans layout slots laws decide_asker (holder_of w.grace.holder) works words w.grace.asks w.grace.seq w.grace.word now.asked now.answered now.asked_sections now.sections y ask c p value is does (stores_last value does) marks k.part;
+        },
+      )
         where
+          pending : Pending (works y) ask c
+          pending = pending_at y (Runs ask c p) ask c is (refl, refl)
+
           which : value ≡ running.from + 2
-          which = let r = running in (laws.all.keeps.order r.from r.word r.plan r.begun).second r.load value r.loads (ap plans.action (sym r.is) ∙ stores)
-
-          done : plans.action (plans.taken p 0) ≡ Finished
-          done = (last 0).1 (stores ∙ ap StoreSeq which)
-
-          low : value ≤ 2 ^ 62 + 2
-          low =
-              let bound = (k.part.asks_kept.pending y ask c pending).4 in
-              let cookie = running.cookie in
-              omega (arith, bound, cookie, which)
-
-          ended : (works' : Asker → Work P) → Sets works works' y Frees → PartOf (holder_of w.grace.holder) works' w.grace.asks value w.grace.word now.asked (ask ∷ now.answered) now.asked_sections × (now.asked_sections ask ≡ [])
-          ended works' s = part_ended plans layout slots laws decide_asker (holder_of w.grace.holder) works works' words w.grace.asks w.grace.seq w.grace.word now.asked now.answered now.asked_sections now.sections y ask c p value is
-              s stores done marks k.part
-
-          works_after : Asker → Work P
-          works_after z = ⊎_elim (λ (e : z ≡ y). Frees) (λ (n : z ≢ y). works z) (decide_asker z y)
-
-          sets_after : Sets works works_after y Frees
-          sets_after = record { here = here (decide_asker y y); others = λ z n. other z n (decide_asker z y) }
-            where
-              here : (d : (y ≡ y) ⊎ (y ≢ y)) → ⊎_elim (λ (e : y ≡ y). (let v : Work P = Frees in v)) (λ (n : y ≢ y). works y) d ≡ Frees
-              here (inl e) = refl
-              here (inr n) = absurd (n refl)
-
-              other : (z : Asker) → z ≢ y → (d : (z ≡ y) ⊎ (z ≢ y)) → ⊎_elim (λ (e : z ≡ y). (let v : Work P = Frees in v)) (λ (n : z ≢ y). works z) d ≡ works z
-              other z n (inl e) = absurd (n e)
-              other z n (inr m) = refl
+          which = cc (sym does ∙ last 0 e)
 
           none : now.asked_sections ask ≡ []
-          none = (ended works_after sets_after).1
+          none = ended_empty plans layout slots laws decide_asker (holder_of w.grace.holder) works words w.grace.asks w.grace.seq w.grace.word now.asked now.answered now.asked_sections now.sections y ask c p value is does (stores_last value does) marks k.part
+      ended _ does e = absurd (cc (sym does ∙ last _ e))
 
-          ends : is_finished (plans.action (plans.taken p 0)) ≡ true → Owed (stepped (record w.grace { seq = value }) ask (telling what.Answered core.Frees))
-          ends e = o.answers c (record w.grace { seq = value }) pending (let cookie = running.cookie in omega (arith, cookie, which)) none (record {
-            allowed = answer_allowed y ask c pending none;
-            rises = steady;
-            phase_low = k.phase_low;
-            seq_low = low;
-            asks_low = log_longer w.log (events.Answer ask ∷ []) w.grace.asks k.asks_low;
-            part = λ works' s. (ended works' s).0;
-          })
+      pub ends : is_finished (plans.action (next plans w p)) ≡ true → (now.asked_sections ask ≡ []) × (c ≤ (effect plans w p).grace.seq) × StepKept y Frees (effect plans w p).grace (Events (events.Answer ask) None)
+      ends = ended (plans.action p) refl
 
-          goes : is_finished (plans.action (plans.taken p 0)) ≡ false → Owed (stepped (record w.grace { seq = value }) ask (telling what.Quiet (core.Runs c (plans.taken p 0))))
-          goes e = absurd (true≢false (sym (ap is_finished done) ∙ e))
+    -- the ask is the next one, or was made and is not done with
+    abbrev pub IsDue : SyncCore P → Type 0
+    IsDue core.Asks = ask ≡ w.grace.asks + 1
+    IsDue core.Done = ⊥
+    IsDue _ = Unit {0}
 
-      owes_action : (a : Action) → plans.action p ≡ a → Owed (done_with plans w ask (core.Runs c p) (Some (action_effect w a)))
-      owes_action (Load slot) does = owes_middle w.grace (loaded_word (slice_get w.readers slot)) (λ v e. cc (sym does ∙ e)) (λ s e. entry_is loaded_word w.readers slot new_reader refl ∙ ap words (cc (sym does ∙ e)))
-          (sym (ap (present_after w.grace.word) does)) steady (λ q. k.part.grace_kept.number_low q) k.phase_low refl refl refl
-      owes_action (StorePhase value) does = owes_middle (record w.grace { word = value }) 0 (λ v e. cc (sym does ∙ e)) (λ s e. cc (sym does ∙ e))
-          (sym (ap (present_after w.grace.word) does)) rises low phase refl refl refl
-        where
-          rises : plans.qsbr ≡ true → w.grace.word ≤ value
-          rises q = subst (λ n. n ≤ value) running.present (laws.all.keeps.rises p value q does)
+    -- any step of a grace period that neither waits nor is blocked
+    pub kept_turn : (sync : SyncCore P) (step : GraceStep P) → works y ≡ core_work ask sync → IsDue sync → TurnRow plans w me ask sync (Ok step) → is_blocked step.answer ≡ false → is_waiting step.answer ≡ false → StepKept y (core_work ask step.core) step.grace step.answer
+    kept_turn _ _ is due (Asking c fits) goes on = subst (λ n. StepKept y (Waits n c) (record w.grace { asks = n }) (Events (events.Ask n) None)) (sym due) (asked_with y (λ a d p e. cc (sym is ∙ e)) c fits)
+    kept_turn _ _ is due (Blocking c other held) goes on = absurd (true≢false goes)
+    kept_turn _ _ is due (Standing from c p takes) goes on = absurd (true≢false on)
+    kept_turn _ _ is due (Locking c free) goes on = quietly (Checks ask c) (record w.grace { holder = Some me }) steady k.phase_low k.seq_low refl
+        (moved (Some y) y (Waits ask c) (Checks ask c) is (λ b d p e. cc) (λ b d p e. cc) (λ b d h. h) (λ b d e. cc) (λ _. refl) (λ z _ h. absurd (none-some z (sym (ap holder_of free) ∙ k.part.grace_kept.held z h))))
+    kept_turn _ _ is due (Finding c up) goes on =
+        reached_kept y (Checks ask c) Frees ask c is (λ b d p e. cc) (λ b d p e. cc) (λ b d h. h) (λ b d e. cc) (λ _. k.part.grace_kept.held y (holding (works y) (Checks ask c) is tt)) (refl, refl) (leb-true c w.grace.seq up)
+    kept_turn _ _ is due (Needing c low) goes on = quietly (Starts ask c) w.grace steady k.phase_low k.seq_low refl
+        (moved (holder_of w.grace.holder) y (Checks ask c) (Starts ask c) is (λ b d p e. cc) (λ b d p e. cc) (λ b d h. h) (λ b d e. subst (λ n. w.grace.seq < n) (cc) (leb-false c w.grace.seq low))
+        (λ _. k.part.grace_kept.held y (holding (works y) (Checks ask c) is tt)) (λ z _ h. k.part.grace_kept.held z h))
+    kept_turn _ _ is due (Going _ _ _ (Begins c) turn more) goes on = begun c is
+    kept_turn _ _ is due (Going _ _ _ (GoesOn c p) turn more) goes on = middle c p is (plans.action p) refl more
+    kept_turn _ _ is due (Ending _ _ _ (Begins c) done) goes on = absurd (begun_goes c is _ done)
+    kept_turn _ _ is due (Ending _ _ _ (GoesOn c p) done) goes on = (ends c p is done).2
+    kept_turn _ _ is due Freeing goes on = quietly Rests (record w.grace { holder = None }) steady k.phase_low k.seq_low refl
+        (moved None y Frees Rests is (λ b d p e. cc) (λ b d p e. cc) (λ b d h. h) (λ b d e. cc) (λ h. absurd h)
+        (λ z apart h. absurd (apart (cc (k.part.grace_kept.held z h, k.part.grace_kept.held y (holding (works y) Frees is tt))))))
+    kept_turn _ _ is due Resting goes on = absurd due
 
-          phase : plans.qsbr ≡ false → value ≤ 1
-          phase f =
-              let r = running in
-              subst (λ (b : Bool). MayStore b r.word value) f (laws.all.keeps.stores r.from r.word r.plan r.begun (r.load ∷ r.loads) value (ap plans.action (sym r.is) ∙ does))
+    -- a grace period tells of asks alone
+    pub asks_alone : (sync : SyncCore P) (step : GraceStep P) → grace_row plans w me ask sync ≡ Ok step →
+        later step.answer ≡ record now { asked = (later step.answer).asked; answered = (later step.answer).answered; asked_sections = (later step.answer).asked_sections }
+    asks_alone = tells plans w me ask (λ es. after_all now es ≡ record now { asked = (after_all now es).asked; answered = (after_all now es).answered; asked_sections = (after_all now es).asked_sections }) refl refl refl
 
-          next_number : plans.qsbr ≡ true → value ≡ running.word + 1
-          next_number q =
-              let r = running in
-              subst (λ (b : Bool). MayStore b r.word value) q (laws.all.keeps.stores r.from r.word r.plan r.begun (r.load ∷ r.loads) value (ap plans.action (sym r.is) ∙ does))
+-- ---- what the lines `sync`, `start` and `poll` keep, and that what they tell may come
 
-          low : plans.qsbr ≡ true → value ≤ w.grace.seq
-          low q = let n = next_number q in let l = (running.low q).0 in omega (arith, n, l, running.odd)
-      owes_action (StoreSeq value) does = owes_last value does
-      owes_action (LoadGroup group) does = absurd (runs_no_group plans layout slots laws w.grace.seq w.grace.word c p running group does)
-      owes_action Finished does = absurd (running.goes_on does)
+module _ {P : Type 0} (plans : Plans P) (layout : Layout) (slots : ℕ) (laws : Laws plans layout slots) (w : BoardView P) (now : State) (k : Kept plans layout slots laws w now) where
+  abbrev Here : ℕ → UpdaterState P → Type 0
+  Here u x = There plans layout slots laws w now k u x
 
-    -- any step of a grace period that is under way
-    pub owes_sync : (place : SyncCore P) → works y ≡ core_work ask place → IsUnderWay place → Owed (grace_row plans w me ask place)
-    owes_sync core.Asks is h = absurd h
-    owes_sync (core.Waits c) is h = owes_lock c is w.grace.holder refl
-    owes_sync (core.Checks c) is h = owes_check c is
-    owes_sync (core.Starts c) is h = owes_begin c is
-    owes_sync (core.Runs c p) is h = owes_action c p is (plans.action p) refl
-    owes_sync core.Frees is h = owes_free is
-    owes_sync core.Done is h = absurd h
+  abbrev Step : Asker → Work P → GraceState → Answer → Type 0
+  Step y work grace answer = StepKept plans layout slots laws w now k y work grace answer
+
+  abbrev after : Answer → State
+  after answer = later plans layout slots laws w now k answer
+
+  -- the updater's state is set, with what is kept of grace periods
+  kept_grace : (u : ℕ) (x x' : UpdaterState P) (y : Asker) (work : Work P) (grace : GraceState) (answer : Answer) → Here u x → UpdaterKept w.heads w.objects (length w.updaters) u x'.place →
+      Sets (work_of w.updaters w.workers) (work_of (slice_set w.updaters u x') w.workers) y work → Step y work grace answer →
+      Kept plans layout slots laws (changed w (Grace u x' grace answer)) (record now { asked = (after answer).asked; answered = (after answer).answered; asked_sections = (after answer).asked_sections })
+  kept_grace u x x' y work grace answer t place sets s = record {
+    shape = k.shape;
+    links_kept = k.links_kept;
+    places_kept = places_set plans layout slots laws w now k w.heads w.objects u x' t.inside place (λ v p _ h. h);
+    readers_kept = readers_over plans.qsbr layout w.readers w.grace.word grace.word w.objects w.objects now.sections now.seen now.held s.rises (λ o known. known) k.readers_kept;
+    part = s.part (work_of (slice_set w.updaters u x') w.workers) sets;
+    ordinals = λ r. log_longer w.log (told answer) (reader_at w.readers r).ordinal (k.ordinals r);
+    asks_low = s.asks_low;
+    seq_low = s.seq_low;
+    phase_low = s.phase_low;
+  }
+
+  -- where an updater stands behind a step of its grace period
+  place_stands : (me : Holder) (ask u : ℕ) (sync : SyncCore P) (step : GraceStep P) → TurnRow plans w me ask sync (Ok step) → UpdaterKept w.heads w.objects (length w.updaters) u (sync_place plans ask step.core)
+  place_stands me ask u _ _ (Asking c is) = tt
+  place_stands me ask u _ _ _ = tt
+
+  place_plain : (ask : ℕ) (core : SyncCore P) (step : SyncStep) → IsPlain (place_at ask core step)
+  place_plain ask core due.Nothing = (tt, tt)
+  place_plain ask core _ = (tt, tt)
+
+  place_works : (ask : ℕ) (sync : SyncCore P) → place_work (sync_place plans ask sync) ≡ core_work ask sync
+  place_works ask core.Done = refl
+  place_works ask _ = refl
+
+  module _ (c : Callbacks w now) (u : ℕ) (x : UpdaterState P) (t : Here u x) where
+    abbrev Owed : Change P → Type 0
+    Owed change = OwesAll plans layout slots laws w now k c (Ok change)
+
+    -- a step of a grace period of the updater
+    pub owes_turn : (ask : ℕ) (sync : SyncCore P) (step : GraceStep P) → place_work x.place ≡ core_work ask sync → IsDue plans layout slots laws w now k (holder.Updater u) ask sync → grace_row plans w (holder.Updater u) ask sync ≡ Ok step →
+        is_blocked step.answer ≡ false → is_waiting step.answer ≡ false → Owed (grace_change plans u x ask step)
+    owes_turn ask sync step works due is goes on = plainly plans layout slots laws w now k c (grace_change plans u x ask step)
+        (t.inside, place_plain ask step.core (step_of plans.action step.core), tells plans w (holder.Updater u) ask AreOther tt (tt, tt) (tt, tt) sync step is) (
+          s.allowed,
+          subst (Kept plans layout slots laws (changed w (grace_change plans u x ask step))) (sym (asks_alone plans layout slots laws w now k (holder.Updater u) ask sync step is)) (
+              kept_grace u x x' (Syncing u) (place_work x'.place) step.grace step.answer t (place_stands (holder.Updater u) ask u sync step row)
+              (work_set plans layout slots laws w.updaters w.workers u x' t.inside (sym (ap (λ (y : UpdaterState P). y.started) t.is))) (subst (λ (v : Work P). Step (Syncing u) v step.grace step.answer) (sym (place_works ask step.core)) s)
+              ),
+        )
+      where
+        x' : UpdaterState P
+        x' = record x { place = sync_place plans ask step.core }
+
+        row : TurnRow plans w (holder.Updater u) ask sync (Ok step)
+        row = turn_of plans w (holder.Updater u) ask sync step is
+
+        s : Step (Syncing u) (core_work ask step.core) step.grace step.answer
+        s = kept_turn plans layout slots laws w now k (holder.Updater u) ask sync step (ap (λ (y : UpdaterState P). place_work y.place) t.is ∙ works) due row goes on
+
+    -- the cookies of `start` and `poll`
+    started_is : work_of w.updaters w.workers (Polling u) ≡ started_work x.started
+    started_is = ap (λ (y : UpdaterState P). started_work y.started) t.is
+
+    started_runs : (s : Option Started) → RunsNone {P = P} (started_work s)
+    started_runs None a d p e = cc
+    started_runs (Some s) a d p e = cc
+
+    -- it is noted, or spent
+    noted : (s : Option Started) (grace : GraceState) (answer : Answer) → Step (Polling u) (started_work s) grace answer →
+        Kept plans layout slots laws (changed w (Grace u (record x { started = s }) grace answer)) (record now { asked = (after answer).asked; answered = (after answer).answered; asked_sections = (after answer).asked_sections })
+    noted s grace answer step = kept_grace u x (record x { started = s }) (Polling u) (started_work s) grace answer t t.mine
+        (started_set plans layout slots laws w.updaters w.workers u (record x { started = s }) t.inside (sym (ap (λ (y : UpdaterState P). y.place) t.is))) step
+
+    pub owes_start : (cookie : ℕ) → x.place ≡ Idle → cookie_for w.grace.seq ≡ Ok cookie →
+        Owed (Grace u (record x { started = Some (record { ask = w.grace.asks + 1; cookie = cookie }) }) (record w.grace { asks = w.grace.asks + 1 }) (Events (events.Ask (w.grace.asks + 1)) None))
+    owes_start cookie was is =
+        let s = asked_with plans layout slots laws w now k (Polling u) (subst (λ (v : Work P). RunsNone v) (sym started_is) (started_runs x.started)) cookie is in
+        plainly plans layout slots laws w now k c (Grace u (record x { started = Some (record { ask = w.grace.asks + 1; cookie = cookie }) }) (record w.grace { asks = w.grace.asks + 1 }) (Events (events.Ask (w.grace.asks + 1)) None))
+        (t.inside, subst (λ (p : UpdaterPlace P). IsPlain p) (sym was) (tt, tt), (tt, tt)) (s.allowed, noted (Some (record { ask = w.grace.asks + 1; cookie = cookie })) _ _ s)
+
+    pub owes_poll : (s : Started) → x.place ≡ Idle → x.started ≡ Some s → nat_le s.cookie w.grace.seq ≡ true → Owed (Grace u (record x { started = None }) w.grace (Events (events.Answer s.ask) None))
+    owes_poll s was is up =
+        let step = reached_kept plans layout slots laws w now k (Polling u) (Waits s.ask s.cookie) Rests s.ask s.cookie (started_is ∙ ap started_work is) (λ b d p e. cc) (λ b d p e. cc) (λ b d h. h) (λ b d e. cc) (λ h. absurd h) (refl, refl) (leb-true s.cookie w.grace.seq up) in
+        plainly plans layout slots laws w now k c (Grace u (record x { started = None }) w.grace (Events (events.Answer s.ask) None)) (t.inside, subst (λ (p : UpdaterPlace P). IsPlain p) (sym was) (tt, tt), (tt, tt)) (step.allowed, noted None w.grace _ step)

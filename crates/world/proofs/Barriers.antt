@@ -1,5 +1,5 @@
 -- What the steps of `barrier` keep, and that what they tell may come.
-use Rattle.world.proofs.Cited.{◌≡◌, ◌≢◌, ◌⊎◌, ⊎_elim, ℕ, true≢false, inl, inr, ◌+◌, ◌<◌, ◌≤◌, nat_le, nat_lt, ltb, not, true, false, List, [], ◌∷◌, ◌++◌, length, get_or, slice_get, slice_set, replicate, Option, None, Result, Ok, refl, sym, ap, ◌∙◌, subst, arith, get_or-set_other, get_or-set_same, length-set, leb-true, ltb-true, ltb-false, cond_both, ObjectId, SectionId, Refusal, ObjectState, has_object, at_number, State, not_run, In, has_object_in, has_number_in, in_numbers, empty_from, at_number_same, at_number_other, filter_has, Layout, items_of, WorkerCore, Quiet, Life, QueueState, Barrier, BarrierStep, Note, Check, UpdaterPlace, Idle, Retires, Bars, UpdaterState, Change, Bar, empty_queue_state, Plans, BoardView, decide_number, life_of, Items, InQueue, queue_at, stands_above, stands_within}
+use Rattle.world.proofs.Cited.{◌≡◌, ◌≢◌, ◌⊎◌, ⊎_elim, ℕ, true≢false, inl, inr, ◌+◌, ◌<◌, ◌≤◌, nat_le, nat_lt, ltb, not, true, false, List, [], ◌∷◌, ◌++◌, length, get_or, slice_get, slice_set, replicate, Option, None, Result, Ok, refl, sym, ap, ◌∙◌, subst, arith, get_or-set_other, get_or-set_same, length-set, leb-true, ltb-true, ltb-false, cond_both, ObjectId, SectionId, Refusal, has_object, at_number, State, not_run, In, has_object_in, has_number_in, in_numbers, empty_from, at_number_same, at_number_other, filter_has, Layout, items_of, WorkerCore, Quiet, Life, QueueState, Barrier, BarrierStep, Note, Check, UpdaterPlace, Idle, Bars, UpdaterState, Change, Bar, empty_queue_state, Plans, BoardView, decide_number, life_of, Items, InQueue, queue_at, stands_above, stands_within}
 use Rattle.rcu_model.specs.declared.event.Event.TheVariants as events
 use Rattle.call_rcu_worker.specs.declared.worker.WorkerCore.TheVariants as worker
 use Rattle.world_state.specs.declared.object.Life.TheVariants as life
@@ -7,11 +7,9 @@ use Rattle.world.specs.Answers.{one}
 use Rattle.world.specs.Queues.{at_place, queued_in, finished_in, after_note, noted_at, barrier_row}
 use Rattle.world.proofs.Fence.{Laws}
 use Rattle.world.proofs.State.{place_work, updater_at, worker_at, Kept, at_updaters}
-use Rattle.world.proofs.KeptPublishing.{There}
+use Rattle.world.proofs.KeptPublishing.{There, kept_updater, beside}
 use Rattle.world.proofs.KeptReaders.{entry_is, longer, log_one}
-use Rattle.world.proofs.Callbacks.{LifeKept, RetireKept, WorkKept, Faces, IsAt, BarKept, Barring, CallbacksKept, Callbacks, queue_kept}
-use Rattle.world.proofs.Plain.{OwesAll}
-use Rattle.world.proofs.Beside.{kept_updater, beside}
+use Rattle.world.proofs.Callbacks.{LifeKept, RetireKept, WorkKept, Faces, IsAt, BarKept, Barring, CallbacksKept, Callbacks, queue_kept, RetiresNone, retires_none, OwesAll}
 
 -- no more was finished than has left the queue
 pub finished_low : {P : Type 0} (ready waiting : Items) (noted : Option ℕ) (gone finished : ℕ) (asked : List ℕ) (awaited : ObjectId → List SectionId) (asked_sections : ℕ → List SectionId) (ask : ℕ) (place : WorkerCore P Unit) →
@@ -30,15 +28,6 @@ bar_beside qs noted noted' cleared cleared' noted_objects noted_objects' _ f h =
 barring_noted : {P : Type 0} (qs : List QueueState) (noted cleared : List ℕ) (noted_objects : ℕ → List ObjectId) (p : UpdaterPlace P) (n : ℕ) → BarKept qs noted cleared noted_objects p → Barring p n → In noted n
 barring_noted qs noted cleared noted_objects (Bars c) n h b = subst (In noted) b h.0
 barring_noted qs noted cleared noted_objects _ n h b = absurd b
-
--- the updater is idle or waits for all
-abbrev RetiresNone : {P : Type 0} → UpdaterPlace P → Type 0
-RetiresNone (Retires o d) = ⊥
-RetiresNone _ = Unit {0}
-
-retires_none : {P : Type 0} (os : List ObjectState) (qs : List QueueState) (count u : ℕ) (p : UpdaterPlace P) → RetiresNone p → RetireKept os qs count u p
-retires_none os qs count u (Retires o d) h = absurd h
-retires_none os qs count u _ h = tt
 
 module _ {P : Type 0} (plans : Plans P) (layout : Layout) (slots : ℕ) (laws : Laws plans layout slots) (w : BoardView P) (now : State) (kept : Kept plans layout slots laws w now) (k : Callbacks w now)
     (u : ℕ) (x : UpdaterState P) (t : There plans layout slots laws w now kept u x) where

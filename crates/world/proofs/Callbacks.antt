@@ -1,12 +1,16 @@
 -- What the world keeps of retired objects, queues, workers and barriers beside the machine.
-use Rattle.world.proofs.Cited.{mod_below, slice_get_within, ◌≡◌, ◌≢◌, ◌⊎◌, inl, inr, ℕ, ◌+◌, ◌%◌, ◌<◌, ◌≤◌, Bool, true, false, List, [], ◌∷◌, ◌++◌, length, get_or, slice_get, Option, Some, None, sym, ap, ◌∙◌, subst, arith, Event, Open, Close, First, Next, Retire, Queue, Run, Ask, Clear, ObjectId, SectionId, without_section, at_number, State, IsAllowed, after, In, in_left, has_number_in, without_section_has, has_without_section, at_number_other, given_of, SyncCore, WorkerCore, Life, ObjectState, QueueState, BarrierStep, Note, Check, RetireStep, UpdaterPlace, Retires, Bars, UpdaterState, WorkerState, changed_at, BoardView, stage_of, chain_of, decide_number, life_of, Items, Has, InQueue, queue_at, changed_here, changed_else}
+use Rattle.world.proofs.Cited.{mod_below, slice_get_within, ◌≡◌, ◌≢◌, ◌⊎◌, inl, inr, ℕ, ◌+◌, ◌%◌, ◌<◌, ◌≤◌, Bool, true, false, List, [], ◌∷◌, ◌++◌, length, get_or, slice_get, Option, Some, None, sym, ap, ◌∙◌, subst, arith, Event, Open, Close, First, Next, Retire, Queue, Run, Ask, Clear, ObjectId, SectionId, without_section, at_number, State, IsAllowed, after, In, in_left, has_number_in, without_section_has, has_without_section, at_number_other, given_of, SyncCore, WorkerCore, Life, ObjectState, QueueState, BarrierStep, Note, Check, RetireStep, UpdaterPlace, Retires, Bars, UpdaterState, WorkerState, changed_at, BoardView, stage_of, chain_of, decide_number, life_of, Items, Has, InQueue, queue_at, changed_here, changed_else, refl, items_of, Mark, marked_life, life_else, stage_marked, chain_marked, Stands, changed_length, slice_set, Result, Ok, Err, length-set, Refusal, AreAllowed, after_all, Layout, ReaderState, Change, Read, Begin, Publish, Grace, Stay, spliced_objects, Plans, told, changed, within, grown_same, spliced_chain, stage_grown, life_within, life_grown, life_spliced}
 use Rattle.rcu_model.specs.declared.event.Event.TheVariants.{Bar}
 use Rattle.call_rcu_worker.specs.declared.sync.SyncCore.TheVariants as core
 use Rattle.call_rcu_worker.specs.declared.worker.WorkerCore.TheVariants as worker
 use Rattle.world_state.specs.declared.object.Life.TheVariants as life
 use Rattle.world_state.specs.declared.object.Stage.TheVariants as stage
 use Rattle.world_state.specs.declared.updater.RetireStep.TheVariants as due
-use Rattle.world.proofs.State.{updater_at, worker_at}
+use Rattle.world.proofs.State.{updater_at, worker_at, told_by, Kept, Owes, at_updaters}
+use Rattle.rcu_model.specs.declared.event.Event.TheVariants as events
+use Rattle.world.proofs.Fence.{Laws}
+use Rattle.world.proofs.Rows.{Copies, Nests, Unnests, Announces, ReaderRows}
+use Rattle.world.proofs.KeptReaders.{longer}
 
 -- what was done with an object, in the table and in the machine
 abbrev pub LifeKept : Life → ObjectId → List ObjectId → List ObjectId → List ObjectId → Type 0
@@ -105,6 +109,28 @@ abbrev pub Barring : {P : Type 0} → UpdaterPlace P → ℕ → Type 0
 Barring (Bars b) n = b.number ≡ n
 Barring _ n = ⊥
 
+-- the updater is idle or retires: no barrier of it is under way
+abbrev pub BarsNone : {P : Type 0} → UpdaterPlace P → Type 0
+BarsNone (Bars b) = ⊥
+BarsNone _ = Unit {0}
+
+pub bars_none : {P : Type 0} (p : UpdaterPlace P) (n : ℕ) → BarsNone p → ¬ Barring p n
+bars_none (Bars b) n h c = h
+bars_none _ n h b = b
+
+pub bars_kept : {P : Type 0} (qs : List QueueState) (noted cleared : List ℕ) (noted_objects : ℕ → List ObjectId) (p : UpdaterPlace P) → BarsNone p → BarKept qs noted cleared noted_objects p
+bars_kept qs noted cleared noted_objects (Bars b) h = absurd h
+bars_kept qs noted cleared noted_objects _ h = tt
+
+-- the updater is idle or waits for all
+abbrev pub RetiresNone : {P : Type 0} → UpdaterPlace P → Type 0
+RetiresNone (Retires o d) = ⊥
+RetiresNone _ = Unit {0}
+
+pub retires_none : {P : Type 0} (os : List ObjectState) (qs : List QueueState) (count u : ℕ) (p : UpdaterPlace P) → RetiresNone p → RetireKept os qs count u p
+retires_none os qs count u (Retires o d) h = absurd h
+retires_none os qs count u _ h = tt
+
 -- there is a queue for each worker, and few of them
 pub record Sizes {P : Type 0} (qs : List QueueState) (workers : List (WorkerState P)) : Type 0 where
   pub some : 1 ≤ length qs
@@ -171,18 +197,14 @@ module _ (asked asked' : List ℕ) (awaited awaited' : ObjectId → List Section
   }
 
   batch_kept : {P : Type 0} (ready waiting : Items) (noted : Option ℕ) (ask tickets : ℕ) (place : SyncCore P) → Covers waiting → BatchKept ready waiting noted asked awaited asked_sections ask tickets place → BatchKept ready waiting noted asked' awaited' asked_sections' ask tickets place
-  batch_kept ready waiting noted ask tickets core.Asks covers b = b
   batch_kept ready waiting noted ask tickets (core.Waits c) covers b = batch_waits ready waiting noted ask tickets c covers b
   batch_kept ready waiting noted ask tickets (core.Checks c) covers b = batch_waits ready waiting noted ask tickets c covers b
   batch_kept ready waiting noted ask tickets (core.Starts c) covers b = batch_waits ready waiting noted ask tickets c covers b
   batch_kept ready waiting noted ask tickets (core.Runs c p) covers b = batch_waits ready waiting noted ask tickets c covers b
-  batch_kept ready waiting noted ask tickets core.Frees covers b = b
-  batch_kept ready waiting noted ask tickets core.Done covers b = absurd b
+  batch_kept ready waiting noted ask tickets _ covers b = b
 
   work_kept : {P : Type 0} (ready waiting : Items) (noted : Option ℕ) (gone finished ask : ℕ) (place : WorkerCore P Unit) → Covers waiting → WorkKept ready waiting noted gone finished asked awaited asked_sections ask place → WorkKept ready waiting noted gone finished asked' awaited' asked_sections' ask place
   work_kept ready waiting noted gone finished ask (worker.Syncs place tickets) covers b = (batch_kept ready waiting noted ask tickets.left place covers b.0, b.1, b.2)
-  work_kept ready waiting noted gone finished ask (worker.Runs tickets ticket item) covers b = absurd b
-  work_kept ready waiting noted gone finished ask (worker.Counts tickets ticket) covers b = absurd b
   work_kept ready waiting noted gone finished ask _ covers b = b
 
   pub work_at : {P : Type 0} (q : QueueState) (x : WorkerState P) → Covers q.items.waiting → WorkAt q asked awaited asked_sections x → WorkAt q asked' awaited' asked_sections' x
@@ -241,3 +263,244 @@ module _ {P : Type 0} (w : BoardView P) (now : State) (k : Callbacks w now) wher
   over_event (First s c None) is allowed = k
   over_event (Next s o None) is allowed = k
   over_event _ is allowed = k
+
+-- ---- what a change of one queue keeps of items, of other updaters and of barriers
+
+-- a header that is stored is none that another updater's retirement looks at
+pub due_marked : (os : List ObjectState) (m : Mark) (reserved : Bool) (queued given count v : ℕ) (o : ObjectId) (d : RetireStep) →
+    ((life_of os o ≡ life.Kept) ⊎ (life_of os o ≡ life.Retired) → chain_of os o % count ≡ v → o ≢ m.object) → DueKept os reserved queued given count v o d → DueKept (marked_life os (Some m)) reserved queued given count v o d
+due_marked os m reserved queued given count v o due.Mark apart h = (
+  stage_marked os (Some m) o ∙ h.0,
+  life_else os m o (apart (inl h.1) h.2) ∙ h.1,
+  ap (λ c. c % count) (chain_marked os (Some m) o) ∙ h.2,
+  h.3,
+  h.4,
+)
+due_marked os m reserved queued given count v o due.Count apart h = (
+  life_else os m o (apart (inr h.0) h.1) ∙ h.0,
+  ap (λ c. c % count) (chain_marked os (Some m) o) ∙ h.1,
+  h.2,
+  h.3,
+)
+due_marked os m reserved queued given count v o due.Push apart h = (
+  life_else os m o (apart (inr h.0) h.1) ∙ h.0,
+  ap (λ c. c % count) (chain_marked os (Some m) o) ∙ h.1,
+  h.2,
+  h.3,
+)
+due_marked os m reserved queued given count v o due.Free apart h = h
+
+pub retire_marked : {P : Type 0} (os : List ObjectState) (m : Mark) (qs : List QueueState) (count v : ℕ) (p : UpdaterPlace P) →
+    ((o : ObjectId) → (life_of os o ≡ life.Kept) ⊎ (life_of os o ≡ life.Retired) → chain_of os o % count ≡ v → o ≢ m.object) → RetireKept os qs count v p → RetireKept (marked_life os (Some m)) qs count v p
+retire_marked os m qs count v (Retires o d) apart h =
+    (h.0, due_marked os m (queue_at qs (v % length qs)).items.reserved (queue_at qs (v % length qs)).queued (given_of (queue_at qs (v % length qs)).items) count v o d (apart o) h.1)
+retire_marked os m qs count v _ apart h = tt
+
+-- who stands in a queue stands in one of others, where each place is kept
+pub found_over : (qs qs' : List QueueState) (o : ObjectId) → length qs' ≡ length qs → ((j t : ℕ) → InQueue (queue_at qs j) t o → InQueue (queue_at qs' j) t o) → Found qs o → Found qs' o
+found_over qs qs' o same stays (j, t, low, here) = (j, t, subst (λ n. j < n) (sym same) low, stays j t here)
+
+-- a barrier over other queues, in which each object that it waits for keeps its place
+pub faces_over : (qs qs' : List QueueState) (counts : List ℕ) (d : BarrierStep) (o : ObjectId) → length qs' ≡ length qs → ((j t : ℕ) → InQueue (queue_at qs j) t o → InQueue (queue_at qs' j) t o) → Faces qs counts d o → Faces qs' counts d o
+faces_over qs qs' counts d o same stays (j, t, low, here, facing) = (j, t, subst (λ n. j < n) (sym same) low, stays j t here, facing)
+
+pub bar_over : {P : Type 0} (qs qs' : List QueueState) (noted cleared : List ℕ) (noted_objects noted_objects' : ℕ → List ObjectId) (p : UpdaterPlace P) → length qs' ≡ length qs →
+    ((b : ℕ) (o : ObjectId) → In (noted_objects' b) o → In (noted_objects b) o × ((j t : ℕ) → InQueue (queue_at qs j) t o → InQueue (queue_at qs' j) t o)) →
+    BarKept qs noted cleared noted_objects p → BarKept qs' noted cleared noted_objects' p
+bar_over qs qs' noted cleared noted_objects noted_objects' (Bars b) same stays h = (
+  h.0,
+  h.1,
+  subst (λ n. n ≤ length b.counts) (sym same) h.2,
+  subst (IsAt b.due) (sym same) h.3,
+  λ o g. let was = stays b.number o g in faces_over qs qs' b.counts b.due o same was.1 (h.4 o was.0),
+)
+bar_over qs qs' noted cleared noted_objects noted_objects' _ same stays h = tt
+
+module _ (qs : List QueueState) (j : ℕ) (f : QueueState → QueueState) (inside : j < length qs) where
+  abbrev pub qs' : List QueueState
+  qs' = changed_at f qs j (slice_get qs j)
+
+  abbrev q : QueueState
+  q = queue_at qs j
+
+  -- a retirement goes on where it does so in the queue that changes
+  retire_at : (os : List ObjectState) (count v : ℕ) (o : ObjectId) (d : RetireStep) → (Retiring os q count v o d → Retiring os (f q) count v o d) → Retiring os (queue_at qs (v % length qs)) count v o d → Retiring os (queue_at qs' (v % length qs')) count v o d
+  retire_at os count v o d goes h = subst (λ n. Retiring os (queue_at qs' (v % n)) count v o d) (sym (changed_length f qs j))
+      (at_queues (λ i r. v % length qs ≡ i → Retiring os r count v o d) f qs j inside (λ e. goes (subst (λ n. Retiring os (queue_at qs n) count v o d) e h)) (λ i apart e. subst (λ n. Retiring os (queue_at qs n) count v o d) e h) (v % length qs) refl)
+
+  -- who does not hold the queue's lock is not concerned
+  pub retire_apart : {P : Type 0} (os : List ObjectState) (count v : ℕ) (p : UpdaterPlace P) → (q.holder ≢ Some v) → RetireKept os qs count v p → RetireKept os qs' count v p
+  retire_apart os count v (Retires o d) other h = retire_at os count v o d (λ was. absurd (other was.0)) h
+  retire_apart os count v _ other h = tt
+
+  -- nor is anybody where lock, place and counts stay
+  pub retire_through : {P : Type 0} (os : List ObjectState) (count v : ℕ) (p : UpdaterPlace P) → (f q).holder ≡ q.holder → (f q).items.reserved ≡ q.items.reserved → (f q).queued ≡ q.queued → given_of (f q).items ≡ given_of q.items →
+      RetireKept os qs count v p → RetireKept os qs' count v p
+  retire_through os count v (Retires o d) lock place count_same given h = retire_at os count v o d (λ was. (
+    lock ∙ was.0,
+    subst (λ r. DueKept os r (f q).queued (given_of (f q).items) count v o d) (sym place)
+        (subst (λ n. DueKept os q.items.reserved n (given_of (f q).items) count v o d) (sym count_same) (subst (λ n. DueKept os q.items.reserved q.queued n count v o d) (sym given) was.1)),
+  )) h
+  retire_through os count v _ lock place count_same given h = tt
+
+  -- the updater that holds the lock
+  pub retire_here : (os : List ObjectState) (count u : ℕ) (o : ObjectId) (d : RetireStep) → u % length qs ≡ j → Retiring os (f q) count u o d → Retiring os (queue_at qs' (u % length qs')) count u o d
+  retire_here os count u o d is h =
+      subst (λ (r : QueueState). Retiring os r count u o d)
+      (sym (ap (λ n. queue_at qs' (u % n)) (changed_length f qs j) ∙ ap (λ n. queue_at qs' n) is ∙ changed_here f qs j inside)) h
+
+  -- items that stay where they are
+  module _ (gone : (f q).items.gone ≡ q.items.gone) (items : items_of (f q).items ≡ items_of q.items) where
+    pub stays : (i t : ℕ) (o : ObjectId) → InQueue (queue_at qs i) t o → InQueue (queue_at qs' i) t o
+    stays i t o =
+        at_queues (λ i r. InQueue (queue_at qs i) t o → InQueue r t o) f qs j inside
+        (λ h. subst (λ n. Stands n (items_of (f q).items) t o) (sym gone) (subst (λ l. Stands q.items.gone l t o) (sym items) h)) (λ i n h. h) i
+
+    pub was_there : (i t : ℕ) (o : ObjectId) → InQueue (queue_at qs' i) t o → InQueue (queue_at qs i) t o
+    was_there i t o =
+        at_queues (λ i r. InQueue r t o → InQueue (queue_at qs i) t o) f qs j inside
+        (λ h. subst (λ l. Stands q.items.gone l t o) items (subst (λ n. Stands n (items_of (f q).items) t o) gone h)) (λ i n h. h) i
+
+    pub items_stay : (os : List ObjectState) (retired queued reclaimed : List ObjectId) → ItemsKept os qs retired queued reclaimed → ItemsKept os qs' retired queued reclaimed
+    items_stay os retired queued reclaimed k = record {
+      lives = k.lives;
+      found = λ o e. found_over qs qs' o (changed_length f qs j) (λ i t. stays i t o) (k.found o e);
+      there = λ i t o h. k.there i t o (was_there i t o h);
+      one_place = λ a b s t o g h. k.one_place a b s t o (was_there a s o g) (was_there b t o h);
+    }
+
+-- ---- what lines that retire nothing, await no barrier and are no worker's keep of callbacks
+
+-- the updater neither retires nor waits for all
+abbrev pub IsPlain : {P : Type 0} → UpdaterPlace P → Type 0
+IsPlain p = BarsNone p × RetiresNone p
+
+-- one updater is set, of which no barrier was or is under way
+pub one_barrier_set : {P : Type 0} (updaters : List (UpdaterState P)) (u : ℕ) (x : UpdaterState P) → u < length updaters → ((n : ℕ) → ¬ Barring x.place n) →
+    ((i j n : ℕ) → Barring (updater_at updaters i).place n → Barring (updater_at updaters j).place n → i ≡ j) →
+    (i j n : ℕ) → Barring (updater_at (slice_set updaters u x) i).place n → Barring (updater_at (slice_set updaters u x) j).place n → i ≡ j
+one_barrier_set {P} updaters u x inside none k i j n a b = k i j n (was i a) (was j b)
+  where
+    was : (v : ℕ) → Barring (updater_at (slice_set updaters u x) v).place n → Barring (updater_at updaters v).place n
+    was = at_updaters (λ v y. Barring y.place n → Barring (updater_at updaters v).place n) updaters u x inside (λ h. absurd (none n h)) (λ v apart h. h)
+
+-- a retirement keeps its place where the table keeps what it looks at
+due_over : (os os' : List ObjectState) (reserved : Bool) (queued given count u : ℕ) (o : ObjectId) (d : RetireStep) → ((p : ObjectId) → life_of os' p ≡ life_of os p) → ((p : ObjectId) → p.0 < length os → chain_of os' p ≡ chain_of os p) →
+    ((p : ObjectId) → stage_of os p ≡ stage.Cut → stage_of os' p ≡ stage.Cut) → DueKept os reserved queued given count u o d → DueKept os' reserved queued given count u o d
+due_over os os' reserved queued given count u o d lives chains cuts h = by d h
+  where
+    home : o.0 < length os → chain_of os o % count ≡ u → chain_of os' o % count ≡ u
+    home inside e = ap (λ c. c % count) (chains o inside) ∙ e
+
+    by : (d : RetireStep) → DueKept os reserved queued given count u o d → DueKept os' reserved queued given count u o d
+    by due.Mark h = (cuts o h.0, lives o ∙ h.1, home (within os o (λ e. cc (sym h.0 ∙ e))) h.2, h.3, h.4)
+    by due.Count h = (lives o ∙ h.0, home (life_within os o (λ e. cc (sym h.0 ∙ e))) h.1, h.2, h.3)
+    by due.Push h = (lives o ∙ h.0, home (life_within os o (λ e. cc (sym h.0 ∙ e))) h.1, h.2, h.3)
+    by due.Free h = h
+
+pub retire_over : {P : Type 0} (os os' : List ObjectState) (qs : List QueueState) (count u : ℕ) (p : UpdaterPlace P) → ((p : ObjectId) → life_of os' p ≡ life_of os p) → ((p : ObjectId) → p.0 < length os → chain_of os' p ≡ chain_of os p) →
+    ((p : ObjectId) → stage_of os p ≡ stage.Cut → stage_of os' p ≡ stage.Cut) → RetireKept os qs count u p → RetireKept os' qs count u p
+retire_over os os' qs count u (Retires o d) lives chains cuts h = (h.0, due_over os os' (queue_at qs (u % length qs)).items.reserved (queue_at qs (u % length qs)).queued (given_of (queue_at qs (u % length qs)).items) count u o d lives chains cuts h.1)
+retire_over os os' qs count u _ lives chains cuts h = tt
+
+module _ {P : Type 0} (w : BoardView P) (now : State) (k : Callbacks w now) where
+  -- only readers, chains and grace periods change
+  over_table : (os' : List ObjectState) (u : ℕ) (x : UpdaterState P) (logged' : ℕ) → u < length w.updaters → IsPlain x.place → length w.log ≤ logged' →
+      ((o : ObjectId) → life_of os' o ≡ life_of w.objects o) → ((o : ObjectId) → o.0 < length w.objects → chain_of os' o ≡ chain_of w.objects o) → ((o : ObjectId) → stage_of w.objects o ≡ stage.Cut → stage_of os' o ≡ stage.Cut) →
+      CallbacksKept os' w.queues (slice_set w.updaters u x) w.workers w.barriers logged' now.sections now.retired now.queued now.reclaimed now.awaited now.asked now.asked_sections now.noted now.cleared now.noted_objects
+  over_table os' u x logged' inside plain more lives chains cuts = record {
+    sizes = k.sizes;
+    items = record {
+      lives = λ o. subst (λ (l : Life). LifeKept l o now.retired now.queued now.reclaimed) (sym (lives o)) (k.items.lives o);
+      found = λ o e. k.items.found o (sym (lives o) ∙ e);
+      there = λ j t o h. lives o ∙ k.items.there j t o h;
+      one_place = k.items.one_place;
+    };
+    queues = λ j. queue_kept (queue_at w.queues j) (length w.log) logged' now.awaited now.awaited more (λ o e. e) (k.queues j);
+    awaits_open = k.awaits_open;
+    retiring = subst (λ n. (v : ℕ) → RetireKept os' w.queues n v (updater_at (slice_set w.updaters u x) v).place) (sym (length-set w.updaters u x))
+        (at_updaters (λ v y. RetireKept os' w.queues (length w.updaters) v y.place) w.updaters u x inside (retires_none os' w.queues (length w.updaters) u x.place plain.1)
+        (λ v apart. retire_over w.objects os' w.queues (length w.updaters) v (updater_at w.updaters v).place lives chains cuts (k.retiring v)));
+    working = k.working;
+    barring = at_updaters (λ v y. BarKept w.queues now.noted now.cleared now.noted_objects y.place) w.updaters u x inside (bars_kept w.queues now.noted now.cleared now.noted_objects x.place plain.0) (λ v apart. k.barring v);
+    one_barrier = one_barrier_set w.updaters u x inside (λ n. bars_none x.place n plain.0) k.one_barrier;
+    numbers = numbers_over more k.numbers;
+  }
+
+-- more is logged
+pub logged_more : {P : Type 0} {os : List ObjectState} {qs : List QueueState} {updaters : List (UpdaterState P)} {workers : List (WorkerState P)} {barriers logged : ℕ}
+    {sections : List SectionId} {retired queued reclaimed : List ObjectId} {awaited : ObjectId → List SectionId} {asked : List ℕ} {asked_sections : ℕ → List SectionId} {noted cleared : List ℕ} {noted_objects : ℕ → List ObjectId}
+    (logged' : ℕ) → logged ≤ logged' → CallbacksKept os qs updaters workers barriers logged sections retired queued reclaimed awaited asked asked_sections noted cleared noted_objects →
+    CallbacksKept os qs updaters workers barriers logged' sections retired queued reclaimed awaited asked asked_sections noted cleared noted_objects
+logged_more {qs = qs} {logged = logged} {awaited = awaited} logged' more k = record {
+  sizes = k.sizes;
+  items = k.items;
+  queues = λ j. queue_kept (queue_at qs j) logged logged' awaited awaited more (λ o e. e) (k.queues j);
+  awaits_open = k.awaits_open;
+  retiring = k.retiring;
+  working = k.working;
+  barring = k.barring;
+  one_barrier = k.one_barrier;
+  numbers = numbers_over more k.numbers;
+}
+
+abbrev pub AreOther : List Event → Type 0
+AreOther [] = Unit {0}
+AreOther (e ∷ es) = IsOther e × AreOther es
+
+-- a reader's step tells of no queue and no barrier
+pub other_reads : {P : Type 0} (qsbr : Bool) (layout : Layout) (w : BoardView P) (r : ℕ) (v : ReaderState) → ReaderRows qsbr layout w r v (λ step. AreOther (told step.answer))
+other_reads qsbr layout w r v _ (Copies none zero) = tt
+other_reads qsbr layout w r v _ (Nests word none flavour more is) = tt
+other_reads qsbr layout w r v _ (Unnests word none flavour is more) = tt
+other_reads qsbr layout w r v _ (Announces copied has flavour online) = (tt, (tt, tt))
+other_reads qsbr layout w r v _ _ = (tt, tt)
+
+over_events : {P : Type 0} (w : BoardView P) (now : State) (es : List Event) → AreOther es → AreAllowed now es → Callbacks w now → Callbacks w (after_all now es)
+over_events w now [] is allowed k = k
+over_events w now (e ∷ es) is allowed k = over_events w (after now e) es is.1 allowed.1 (over_event w now k e is.0 allowed.0)
+
+-- what was cut stays cut
+cut_grows : (now : State) (e : Event) (o : ObjectId) → In now.cut o → In (after now e).cut o
+cut_grows now (events.Replace c p q) o h = inr h
+cut_grows now (events.Cut c p) o h = inr h
+cut_grows now (events.First s c None) o h = h
+cut_grows now (events.Next s p None) o h = h
+cut_grows now _ o h = h
+
+-- changes that callbacks do not notice
+abbrev pub PlainChange : {P : Type 0} → BoardView P → Change P → Type 0
+PlainChange w (Read r step) = AreOther (told step.answer)
+PlainChange w (Begin u x y) = (u < length w.updaters) × IsPlain x.place × (y.life ≡ life.Kept) × (y.stage ≡ stage.Fresh)
+PlainChange w (Publish u x s e) = (u < length w.updaters) × IsPlain x.place × IsOther e
+PlainChange w (Grace u x grace answer) = (u < length w.updaters) × IsPlain x.place × AreOther (told answer)
+PlainChange w (Stay answer) = Unit {0}
+PlainChange w _ = ⊥
+
+module _ {P : Type 0} (plans : Plans P) (layout : Layout) (slots : ℕ) (laws : Laws plans layout slots) (w : BoardView P) (now : State) (kept : Kept plans layout slots laws w now) (k : Callbacks w now) where
+  -- what a change owes, with its callbacks
+  abbrev pub OwesAll : Result (Change P) Refusal → Type 0
+  OwesAll (Err e) = Unit {0}
+  OwesAll (Ok change) = AreAllowed now (told_by change) × Kept plans layout slots laws (changed w change) (after_all now (told_by change)) × Callbacks (changed w change) (after_all now (told_by change))
+
+  pub plainly : (change : Change P) → PlainChange w change → Owes plans layout slots laws w now (Ok change) → OwesAll (Ok change)
+  plainly (Read r step) is owed = (owed.0, owed.1, logged_more (length (w.log ++ told step.answer)) (longer w.log (told step.answer)) (over_events w now (told step.answer) is owed.0 k))
+  plainly (Begin u x y) is owed = (
+    owed.0,
+    owed.1,
+    over_table w now k (w.objects ++ y ∷ []) u x (length w.log) is.0 is.1 (omega arith) (λ o. life_grown w.objects y o is.2)
+        (λ o inside. ap (λ (z : ObjectState). z.chain) (grown_same w.objects y o inside)) (λ o e. stage_grown w.objects y is.3 o ∙ e),
+  )
+  plainly (Publish u x s e) is owed = (
+    owed.0,
+    owed.1,
+    over_table w (after now e) (over_event w now k e is.2 owed.0.0) (spliced_objects w.objects s) u x (length (w.log ++ e ∷ [])) is.0 is.1 (longer w.log (e ∷ [])) (life_spliced w.objects s)
+        (λ o inside. spliced_chain w.objects s o) (λ o was. (owed.1.links_kept.was_cut o (cut_grows now e o (kept.links_kept.cuts o was))).0),
+  )
+  plainly (Grace u x grace answer) is owed = (
+    owed.0,
+    owed.1,
+    over_table w (after_all now (told answer)) (over_events w now (told answer) is.2 owed.0 k) w.objects u x (length (w.log ++ told answer)) is.0 is.1 (longer w.log (told answer)) (λ o. refl) (λ o inside. refl) (λ o e. e),
+  )
+  plainly (Stay answer) is owed = (owed.0, owed.1, k)
+  plainly _ is owed = absurd is

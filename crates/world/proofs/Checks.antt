@@ -1,5 +1,5 @@
--- What a check under the grace lock answers, and a `poll`.
-use Rattle.world.proofs.Cited.{◌≡◌, ℕ, nat_le, cond, Bool, true, false, not, get_or, slice_get, List, [], ◌∷◌, Option, Some, None, Result, Ok, refl, sym, ap, ◌∙◌, unwrap_or, get_or_from_slice_get, unwrap_or-slice_get, Refusal, Answered, SyncCore, Checks, Starts, Frees, Tickets, WorkerCore, Answer, Events, Wait, Line, Updater, Worker, UpdaterPlace, Idle, Syncs, Started, UpdaterState, Change, Grace, WorkerState, new_worker, Plans, BoardView, idle}
+-- What a check under the grace lock answers, and a `poll`; and the steps of a retirement, in their order.
+use Rattle.world.proofs.Cited.{◌≡◌, ℕ, nat_le, cond, Bool, true, false, not, get_or, slice_get, List, [], ◌∷◌, Option, Some, None, Result, Ok, refl, sym, ap, ◌∙◌, unwrap_or, get_or_from_slice_get, unwrap_or-slice_get, Refusal, Answered, SyncCore, Checks, Starts, Frees, Tickets, WorkerCore, Answer, Events, Wait, Line, Updater, Worker, UpdaterPlace, Idle, Syncs, Started, UpdaterState, Change, Grace, WorkerState, new_worker, Plans, BoardView, idle, ◌<◌, is_some, length, slice_set, subst, get_or-set_same, slice_get_within, ObjectId, Quiet, Blocked, QueueState, RetireStep, Count, Free, Retires, Hold, Stay, empty_queue_state, held_by, changed_here, cond_both}
 use Rattle.rcu_model.specs.declared.event.Event.TheVariants.{Answer as EventAnswer}
 use Rattle.call_rcu_worker.specs.Sync.{telling}
 use Rattle.call_rcu_worker.specs.declared.sync.Told.TheVariants.{Quiet}
@@ -13,6 +13,10 @@ use Rattle.world.specs.Checks.{Check, check_in, check_of_place, check_of_core, p
 use Rattle.world.specs.Lines.{operation_test, is_idle, synced, updater_on, of_updater, of_worker, with_change, outcome_of}
 use Rattle.world.specs.Row.{Row, stalled_if, guarded, after, made}
 use Rattle.world.specs.Workers.{worked, worker_on, is_resting}
+use Rattle.world_state.specs.declared.updater.RetireStep.TheVariants.{Mark, Push}
+use Rattle.world.specs.Locks.{lock_of}
+use Rattle.world.specs.Queues.{queue_of, at_place, retire_on, may_retire, lock_row}
+use Rattle.world.specs.Retiring.{Due, due_at, due_of, DoesItsStep, RetiresInOrder}
 
 pub past : {X : Type 0} (xs : List X) (i : ℕ) (d : X) → slice_get xs i ≡ None → get_or xs i d ≡ d
 past xs i d none = sym (unwrap_or-slice_get xs i d) ∙ ap (λ o. unwrap_or o d) none
@@ -33,27 +37,22 @@ module _ {P : Type 0} (plans : Plans P) (w : BoardView P) where
   reply ask b = cond b (Ok (Events (EventAnswer ask) None)) (Ok Plain)
 
   module _ (u : ℕ) (x : UpdaterState P) (ask : ℕ) where
-    updater_told : (cookie : ℕ) (b : Bool) → (with_change w (made (synced plans u x ask (checked ask cookie b)))).answer ≡ reply ask b
-    updater_told cookie true = refl
-    updater_told cookie false = refl
-
     updater_checks : (core : SyncCore P) (check : Check) → check_in ask core ≡ Some check → (with_change w (made (updater_on plans w u x (Syncs ask core)))).answer ≡ answer_by w.grace.seq check
-    updater_checks (Checks cookie) check is = let same : record { ask = ask; cookie = cookie; otherwise = Plain } ≡ check = cc in updater_told cookie (nat_le cookie w.grace.seq) ∙ ap (λ (c : Check). answer_by w.grace.seq c) same
+    updater_checks (Checks cookie) check is = let same : record { ask = ask; cookie = cookie; otherwise = Plain } ≡ check = cc in
+        (elim (nat_le cookie w.grace.seq) as (λ b. (with_change w (made (synced plans u x ask (checked ask cookie b)))).answer ≡ reply ask b) [ true ↦ refl | false ↦ refl ]) ∙ ap (λ (c : Check). answer_by w.grace.seq c) same
     updater_checks core check is = cc
 
-  at_place : (u : ℕ) (x : UpdaterState P) (place : UpdaterPlace P) (check : Check) → check_of_place place ≡ Some check → (with_change w (made (on_place place (updater_on plans w u x place)))).answer ≡ answer_by w.grace.seq check
-  at_place u x (Syncs ask core) check is = updater_checks u x ask core check is
-  at_place u x place check is = cc
+  at_updater : (u : ℕ) (x : UpdaterState P) (place : UpdaterPlace P) (check : Check) → check_of_place place ≡ Some check → (with_change w (made (on_place place (updater_on plans w u x place)))).answer ≡ answer_by w.grace.seq check
+  at_updater u x (Syncs ask core) check is = updater_checks u x ask core check is
+  at_updater u x place check is = cc
 
   module _ (u : ℕ) (x : UpdaterState P) where
-    poll_told : (s : Started) (b : Bool) →
-        (with_change w (made (guarded (stalled_if (not b) Wait ∷ []) (Ok (Grace u (record x { started = None }) w.grace (Events (EventAnswer s.ask) None)))))).answer ≡ cond b (Ok (Events (EventAnswer s.ask) None)) (Ok Wait)
-    poll_told s true = refl
-    poll_told s false = refl
-
     polls : (place : UpdaterPlace P) (started : Option Started) (check : Check) → poll_at place started ≡ Some check →
         (with_change w (made (after (operation_test false (not (is_idle place)) ∷ []) (poll_row w u x started)))).answer ≡ answer_by w.grace.seq check
-    polls Idle (Some s) check is = let same : record { ask = s.ask; cookie = s.cookie; otherwise = Wait } ≡ check = cc in poll_told s (nat_le s.cookie w.grace.seq) ∙ ap (λ (c : Check). answer_by w.grace.seq c) same
+    polls Idle (Some s) check is = let same : record { ask = s.ask; cookie = s.cookie; otherwise = Wait } ≡ check = cc in
+        (elim (nat_le s.cookie w.grace.seq) as (λ b. (with_change w (made (guarded (stalled_if (not b) Wait ∷ []) (Ok (Grace u (record x { started = None }) w.grace (Events (EventAnswer s.ask) None)))))).answer ≡ cond b (Ok (Events (EventAnswer s.ask) None)) (Ok Wait))
+        [ true ↦ refl | false ↦ refl ])
+        ∙ ap (λ (c : Check). answer_by w.grace.seq c) same
     polls place started check is = cc
 
   of_poll : (u : ℕ) (y : Option (UpdaterState P)) → slice_get w.updaters u ≡ y → (check : Check) → poll_of (get_or w.updaters u idle) ≡ Some check → (with_change w (made (of_updater plans w u updater.Poll y))).answer ≡ answer_by w.grace.seq check
@@ -61,12 +60,9 @@ module _ {P : Type 0} (plans : Plans P) (w : BoardView P) where
   of_poll u (Some x) there check is = polls u x x.place x.started check (sym (ap (λ (y : UpdaterState P). poll_of y) (get_or_from_slice_get w.updaters u x idle there)) ∙ is)
 
   module _ (k : ℕ) (x : WorkerState P) (tickets : Tickets) where
-    worker_told : (cookie : ℕ) (b : Bool) → (with_change w (made (worked k x.ask tickets (checked x.ask cookie b)))).answer ≡ reply x.ask b
-    worker_told cookie true = refl
-    worker_told cookie false = refl
-
     worker_checks : (core : SyncCore P) (check : Check) → check_in x.ask core ≡ Some check → (with_change w (made (worker_on plans w k x (works.Syncs core tickets)))).answer ≡ answer_by w.grace.seq check
-    worker_checks (Checks cookie) check is = let same : record { ask = x.ask; cookie = cookie; otherwise = Plain } ≡ check = cc in worker_told cookie (nat_le cookie w.grace.seq) ∙ ap (λ (c : Check). answer_by w.grace.seq c) same
+    worker_checks (Checks cookie) check is = let same : record { ask = x.ask; cookie = cookie; otherwise = Plain } ≡ check = cc in
+        (elim (nat_le cookie w.grace.seq) as (λ b. (with_change w (made (worked k x.ask tickets (checked x.ask cookie b)))).answer ≡ reply x.ask b) [ true ↦ refl | false ↦ refl ]) ∙ ap (λ (c : Check). answer_by w.grace.seq c) same
     worker_checks core check is = cc
 
   at_core : (k : ℕ) (x : WorkerState P) (core : WorkerCore P Unit) (check : Check) → check_of_core x.ask core ≡ Some check → (with_change w (made (on_core core (worker_on plans w k x core)))).answer ≡ answer_by w.grace.seq check
@@ -76,7 +72,7 @@ module _ {P : Type 0} (plans : Plans P) (w : BoardView P) where
   of_updater_line : (u : ℕ) (y : Option (UpdaterState P)) → slice_get w.updaters u ≡ y → (check : Check) → check_of_place (get_or w.updaters u idle).place ≡ Some check → (with_change w (made (of_updater plans w u updater.GoOn y))).answer ≡ answer_by w.grace.seq check
   of_updater_line u None there check is = let none = ap (λ (x : UpdaterState P). check_of_place x.place) (past w.updaters u idle there) in cc
   of_updater_line u (Some x) there check is =
-      at_place u x x.place check (sym (ap (λ (y : UpdaterState P). check_of_place y.place) (get_or_from_slice_get w.updaters u x idle there)) ∙ is)
+      at_updater u x x.place check (sym (ap (λ (y : UpdaterState P). check_of_place y.place) (get_or_from_slice_get w.updaters u x idle there)) ∙ is)
 
   of_worker_line : (k : ℕ) (y : Option (WorkerState P)) → slice_get w.workers k ≡ y → (check : Check) → check_of_core (get_or w.workers k new_worker).ask (get_or w.workers k new_worker).core ≡ Some check → (with_change w (made (of_worker plans w k worker.GoOn y))).answer ≡ answer_by w.grace.seq check
   of_worker_line k None there check is = let none = ap (λ (x : WorkerState P). check_of_core x.ask x.core) (past w.workers k new_worker there) in cc
@@ -88,3 +84,53 @@ module _ {P : Type 0} (plans : Plans P) (w : BoardView P) where
   checks (Updater u updater.Poll) check is = of_poll u (slice_get w.updaters u) refl check is
   checks (Worker k worker.GoOn) check is = of_worker_line k (slice_get w.workers k) refl check is
   checks line check is = cc
+
+-- ---- the steps of a retirement, in their order
+
+module _ {P : Type 0} (plans : Plans P) (w : BoardView P) (u : ℕ) (there : queue_of w u < length w.queues) where
+  -- the updater and its queue once its step is made
+  set_place : (x : UpdaterState P) → slice_get w.updaters u ≡ Some x → (place : UpdaterPlace P) → due_at (get_or (slice_set w.updaters u (at_place x place)) u idle).place ≡ due_at place
+  set_place x was place = ap (λ (y : UpdaterState P). due_at y.place) (get_or-set_same w.updaters u (at_place x place) idle (slice_get_within w.updaters u x was))
+
+  -- a step of a retirement
+  of_step : (x : UpdaterState P) → slice_get w.updaters u ≡ Some x → (o : ObjectId) (step : RetireStep) → DoesItsStep w u (queue_of w u) (with_change w (Ok (retire_on w u x o step))) o step
+  of_step x was o Mark = record { answered = refl; due = set_place x was (Retires o Count); headers = refl; stored = changed_here _ w.queues (queue_of w u) there }
+  of_step x was o Count = record { answered = refl; due = set_place x was (Retires o Push); headers = refl; stored = changed_here _ w.queues (queue_of w u) there }
+  of_step x was o Push = record { answered = refl; due = set_place x was (Retires o Free); headers = refl; stored = changed_here _ w.queues (queue_of w u) there }
+  of_step x was o Free = record { answered = refl; due = set_place x was Idle; headers = refl; stored = changed_here _ w.queues (queue_of w u) there }
+
+  of_place : (x : UpdaterState P) → slice_get w.updaters u ≡ Some x → (place : UpdaterPlace P) (due : Due) → due_at place ≡ Some due → DoesItsStep w u (queue_of w u) (with_change w (made (after (operation_test true (not (is_idle place)) ∷ []) (updater_on plans w u x place)))) due.object due.step
+  of_place x was (Retires o step) due is =
+      let same : record { object = o; step = step } ≡ due = cc in
+      subst (λ (d : Due). DoesItsStep w u (queue_of w u) (with_change w (Ok (retire_on w u x o step))) d.object d.step) same (of_step x was o step)
+  of_place x was place due is = cc
+
+  of_updaters : (y : Option (UpdaterState P)) → slice_get w.updaters u ≡ y → (due : Due) → due_of w u ≡ Some due → DoesItsStep w u (queue_of w u) (with_change w (made (of_updater plans w u updater.GoOn y))) due.object due.step
+  of_updaters None was due is = let none = ap (λ (x : UpdaterState P). due_at x.place) (past w.updaters u idle was) in cc
+  of_updaters (Some x) was due is = of_place x was x.place due (sym (ap (λ (y : UpdaterState P). due_at y.place) (get_or_from_slice_get w.updaters u x idle was)) ∙ is)
+
+  -- its first line
+  abbrev Begins : ObjectId → Result (Change P) Refusal → Type 0
+  Begins o r =
+      (with_change w r).answer ≡ Ok Quiet →
+      (lock_of w (queue_of w u) ≡ None) × (lock_of (with_change w r).world (queue_of w u) ≡ Some u) × (due_of (with_change w r).world u ≡ Some (record { object = o; step = Mark }))
+
+  of_lock : (x : UpdaterState P) → slice_get w.updaters u ≡ Some x → (o : ObjectId) (holder : Option ℕ) → lock_of w (queue_of w u) ≡ holder → Begins o (cond (is_some holder) (Ok (Stay Blocked)) (Ok (Hold u (at_place x (Retires o Mark)) (queue_of w u))))
+  of_lock x was o None is = λ _. (is, ap (λ (q : QueueState). q.holder) (changed_here (held_by u) w.queues (queue_of w u) there), set_place x was (Retires o Mark))
+  of_lock x was o (Some other) is = λ e. cc
+
+  of_row : (x : UpdaterState P) → slice_get w.updaters u ≡ Some x → (o : ObjectId) (q : Option QueueState) → slice_get w.queues (queue_of w u) ≡ q → Begins o (made (lock_row w u x o q))
+  of_row x was o None is = λ e. cc
+  of_row x was o (Some q) is = of_lock x was o q.holder (ap (λ (y : QueueState). y.holder) (get_or_from_slice_get w.queues (queue_of w u) q empty_queue_state is))
+
+  of_first : (o : ObjectId) (y : Option (UpdaterState P)) → slice_get w.updaters u ≡ y → Begins o (made (of_updater plans w u (updater.Retire o) y))
+  of_first o None was = λ e. cc
+  of_first o (Some x) was =
+      cond_both (not (is_idle x.place)) _ _ (Begins o) (λ busy e. cc)
+      (λ idle. cond_both (not (may_retire w u (slice_get w.objects o.0))) _ _ (Begins o) (λ none e. cc) (λ may. of_row x was o (slice_get w.queues (queue_of w u)) refl))
+
+  pub in_order : RetiresInOrder plans w u
+  in_order = record {
+    begins = λ o. of_first o (slice_get w.updaters u) refl;
+    goes_on = λ due. of_updaters (slice_get w.updaters u) refl due;
+  }

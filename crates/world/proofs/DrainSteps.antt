@@ -1,5 +1,5 @@
 -- A drain's steps: where a worker stands alone, its next line is made, and leads to where it stands with one step less.
-use Rattle.world.proofs.Cited.{nil_from_length, ◌≡◌, ◌≢◌, ◌↔◌, ℕ, zero, suc, ◌+◌, ◌*◌, ◌%◌, ◌^◌, ◌<◌, ◌≤◌, ltb, cond_both, Bool, true, false, not, List, [], ◌∷◌, length, length-append, slice_get, slice_set, Option, Some, None, Result, Ok, refl, sym, ap, ◌∙◌, subst, arith, or_parts, le-leb, lt-leb, lt-ltb, ltb-true, ltb-false, Refusal, Layout, Narrow, Wide, Item, items_of, after_advance, Action, Load, StoreSeq, Finished, after_loads, FinishesAfter, each_turn, turn_at, turn_count, went_on, SyncCore, WorkerCore, rest_of, turned, is_finished, Change, Work, Answer, Quiet, Worker, Mark, QueueAct, QueueState, ReaderState, GraceState, Holder, WorkerState, acted, changed_at, is_open_in, Items, Plans, BoardView, told}
+use Rattle.world.proofs.Cited.{nil_from_length, ◌≡◌, ◌≢◌, ◌↔◌, ℕ, zero, suc, ◌+◌, ◌*◌, ◌%◌, ◌^◌, ◌<◌, ◌≤◌, ltb, cond_both, Bool, true, false, not, List, [], ◌∷◌, length, length-append, slice_get, slice_set, Option, Some, None, Result, Ok, refl, sym, ap, ◌∙◌, subst, arith, or_parts, le-leb, lt-leb, lt-ltb, ltb-true, ltb-false, Refusal, Layout, Narrow, Wide, Item, items_of, after_advance, Action, Load, StoreSeq, Finished, after_loads, FinishesAfter, each_turn, turn_at, turn_count, went_on, SyncCore, WorkerCore, rest_of, turned, is_finished, Change, Work, Answer, Quiet, Worker, Mark, QueueAct, QueueState, ReaderState, GraceState, Holder, WorkerState, acted, changed_at, is_open_in, Items, Plans, BoardView, told, ◌-◌, cond, replicate, Err, ne_eqb, Busy, Exhausted, get_or_from_slice_get, none_some, empty_queue_state, inl, inr, MembPlan, QsbrPlan, Line}
 use Rattle.callback_queue.specs.Queue.{Queue}
 use Rattle.gp_memb.specs.declared.plan.Turn.TheVariants as turns
 use Rattle.call_rcu_worker.specs.declared.sync.SyncCore.TheVariants as core
@@ -9,12 +9,21 @@ use Rattle.world_state.specs.declared.line.WorkerVerb.TheVariants as verb
 use Rattle.world_state.specs.declared.queue.QueueAct.TheVariants as act
 use Rattle.world_state.specs.declared.updater.Holder.TheVariants as holder
 use Rattle.world.specs.Grace.{stepped, loaded_word, action_effect, lock_effect, done_with, plan_now}
-use Rattle.world.specs.Lines.{operation_test, change_of, with_change}
+use Rattle.world.specs.Lines.{operation_test, change_of, with_change, outcome_of, world_after}
 use Rattle.world.specs.Row.{after, made}
-use Rattle.world.specs.Steps.{IsPrompt, IsMade}
-use Rattle.world.specs.Workers.{worked, worker_on, with_core, is_resting}
-use Rattle.world.specs.Drain.{some_open, IsWork}
-use Rattle.world.proofs.Found.{unplanned}
+use Rattle.world.specs.Steps.{IsPrompt, IsMade, OfMemb, OfQsbr, memb_plans, qsbr_plans}
+use Rattle.world.specs.Workers.{worked, worker_on, with_core, is_resting, is_none_left}
+use Rattle.world.specs.Drain.{some_open, IsWork, steps_for, drain_lines, is_busy, items_in, items_to_drain, steps_with, HasDrained, AreMadeFrom, Tells, Drains, IsSettled, AreMade, MeetsDrain}
+use Rattle.world.proofs.GraceRows.{unplanned}
+use Rattle.std.specs.Prelude.{is_some}
+use Rattle.world.specs.Reached.{IsReached}
+use Rattle.world.proofs.Promises.{reached_step, memb_lines, qsbr_lines}
+use Rattle.world.proofs.Rows.{rest_tells, not_false, none_is}
+use Rattle.world.proofs.WorkerSteps.{all_fresh}
+use Rattle.world.proofs.Fence.{Laws, Work as Works, Holds}
+use Rattle.world.proofs.Moving.{work_now}
+use Rattle.world.proofs.Logged.{Logged, within_limits, logged}
+use Rattle.world.proofs.State.{holder_of}
 
 -- where nobody is in a section, every loaded word says so
 none_open : (qsbr : Bool) (layout : Layout) → is_open_in qsbr layout 0 ≡ false
@@ -190,3 +199,187 @@ module _ {P : Type 0} (plans : Plans P) where
   -- a line that goes on
   pub goes_at : AreSound → (w : BoardView P) (k left goal : ℕ) → Drain w k (suc left) goal → Goes w k left goal (change_of plans w (Worker k verb.GoOn))
   goes_at sound w k left goal d = rw d.is (goes w k left goal d.x d.q d.is d.has d.closed d.events d.logged sound d.x.core d.stands)
+
+-- ---- a drain from its `take` to its last count, on the board's definitions
+
+some_left : {X : Type 0} (xs : List X) → xs ≢ [] → is_none_left xs ≡ false
+some_left [] n = absurd (n refl)
+some_left (y ∷ ys) n = refl
+
+-- the number of steps: the `take` and those behind it
+steps_count : (qsbr : Bool) (slots items : ℕ) → 1 ≤ items → steps_for qsbr slots items ≡ suc (turn_count qsbr slots + 4 + 2 * items)
+steps_count true slots items some = rw (ne_eqb items 0 (λ none. omega (arith, none, some))) (omega arith)
+steps_count false slots items some = rw (ne_eqb items 0 (λ none. omega (arith, none, some))) (omega arith)
+
+module _ {P : Type 0} where
+  not_busy : (qsbr : Bool) (w : BoardView P) (x : WorkerState P) (q : QueueState) → is_busy qsbr w x q ≡ false → (some_open qsbr w.layout w.readers ≡ false) × (w.grace.holder ≡ None) × (is_some q.holder ≡ false) × (x.core ≡ worker.Idle)
+  not_busy qsbr w x q quiet =
+      let a = or_parts (some_open qsbr w.layout w.readers) _ quiet in
+      let b = or_parts (is_some w.grace.holder) _ a.1 in
+      let c = or_parts (is_some q.holder) _ b.1 in
+      (a.0, none_is w.grace.holder b.0, c.0, rest_tells x.core (not_false c.1))
+
+  -- a drain can begin
+  pub record Begins (qsbr : Bool) (w : BoardView P) (k items : ℕ) : Type 0 where
+    pub x : WorkerState P
+    pub q : QueueState
+    pub is : slice_get w.workers k ≡ Some x
+    pub has : slice_get w.queues k ≡ Some q
+    pub quiet : is_busy qsbr w x q ≡ false
+    pub count : length (items_of q.items) ≡ items
+    pub below : 1 ≤ items → w.grace.seq < 2 ^ 62
+
+  begins : (qsbr : Bool) (w : BoardView P) (k items : ℕ) → items_to_drain qsbr w k ≡ Ok items → Begins qsbr w k items
+  begins qsbr w k items = at (slice_get w.workers k) (slice_get w.queues k) refl refl
+    where
+      at : (ox : Option (WorkerState P)) (oq : Option QueueState) → slice_get w.workers k ≡ ox → slice_get w.queues k ≡ oq → items_in qsbr w ox oq ≡ Ok items → Begins qsbr w k items
+      at None oq is has e = absurd (cc)
+      at (Some x) None is has e = absurd (cc)
+      at (Some x) (Some q) is has e = by (is_busy qsbr w x q) (items_of q.items) (ltb w.grace.seq (2 ^ 62)) refl refl refl e
+        where
+          by : (busy : Bool) (all : Items) (low : Bool) → is_busy qsbr w x q ≡ busy → items_of q.items ≡ all → ltb w.grace.seq (2 ^ 62) ≡ low → cond busy (Err Busy) (cond (is_none_left all) (Ok 0) (cond low (Ok (length all)) (Err Exhausted))) ≡ Ok items → Begins qsbr w k items
+          by true all low quiet is_all below e = absurd (cc)
+          by false [] low quiet is_all below e = let none : 0 ≡ items = cc in record { x = x; q = q; is = is; has = has; quiet = quiet; count = ap length is_all ∙ none; below = λ some. absurd (omega (arith, none, some)) }
+          by false (y ∷ ys) false quiet is_all below e = absurd (cc)
+          by false (y ∷ ys) true quiet is_all below e = record { x = x; q = q; is = is; has = has; quiet = quiet; count = ap length is_all ∙ cc; below = λ some. ltb-true w.grace.seq (2 ^ 62) below }
+
+  pub drains_fresh : (qsbr : Bool) (w : BoardView P) (k : ℕ) (x : WorkerState P) (q : QueueState) → slice_get w.workers k ≡ Some x → slice_get w.queues k ≡ Some q → is_busy qsbr w x q ≡ false → items_of q.items ≢ [] → w.grace.seq < 2 ^ 62 → IsSettled w → items_to_drain qsbr w k ≡ Ok (length q.items.fresh)
+  drains_fresh qsbr w k x q is has quiet some below s =
+      let empty = s.rested k x q is has (not_busy qsbr w x q quiet).3 in
+      rw (is, has, quiet, some_left (items_of q.items) some, lt-ltb w.grace.seq (2 ^ 62) below, all_fresh q.items empty.0 empty.1)
+
+module _ {P : Type 0} (plans : Plans P) where
+  abbrev next : BoardView P → ℕ → BoardView P
+  next w k = (outcome_of plans w (Worker k verb.GoOn)).world
+
+  -- the lines that are left of a drain are made
+  finish : AreSound plans → (w : BoardView P) (k left goal : ℕ) → Drain plans w k left goal → AreMadeFrom plans w (replicate left (Worker k verb.GoOn)) × Drain plans (world_after plans w (replicate left (Worker k verb.GoOn))) k 0 goal
+  finish sound w k zero goal d = (tt, d)
+  finish sound w k (suc left) goal d =
+      let g = goes_at plans sound w k left goal d in
+      let r = finish sound (next w k) k left goal g.drain in
+      ((g.made, r.0), r.1)
+
+  -- once none is left, all is told, the worker rests, and nothing is left
+  ended : (w : BoardView P) (k goal : ℕ) → Drain plans w k 0 goal → (length w.log ≡ goal) × (IsSettled w → HasDrained w k)
+  ended w k goal d = by d.x.core refl d.stands
+    where
+      by : (c : WorkerCore P Unit) → d.x.core ≡ c → Stands plans w.layout (turn_count plans.qsbr (length w.readers)) w.grace d.q.items 0 d.events c → (length w.log ≡ goal) × (IsSettled w → HasDrained w k)
+      by worker.Idle idle s = (omega (arith, d.logged), λ settled. rw (d.is, d.has) (idle, (s.2, (settled.rested k d.x d.q d.is d.has idle).2), s.3))
+      by (worker.Syncs core.Asks t) idle s = absurd (omega arith)
+      by (worker.Syncs _ t) idle s = absurd (omega arith)
+      by _ idle s = absurd (omega arith)
+
+  -- the loop of a drain: the lines that are left lead to this board, and the log has room for all that is told
+  pub record Under (final w : BoardView P) (k left goal room : ℕ) : Type 0 where
+    pub drain : Drain plans w k left goal
+    pub leads_to : world_after plans w (replicate left (Worker k verb.GoOn)) ≡ final
+    pub reached : IsReached plans w
+    pub fits : goal ≤ room
+
+  -- a round of the loop
+  pub record Round (final w : BoardView P) (k left goal room : ℕ) : Type 0 where
+    pub work : IsWork (change_of plans w (Worker k verb.GoOn))
+    pub fits : length (next w k).log ≤ room
+    pub under : Under final (next w k) k left goal room
+
+  pub round : AreSound plans → (final w : BoardView P) (k done steps goal room : ℕ) → done < steps → Under final w k (steps - done) goal room → Round final w k (steps - (done + 1)) goal room
+  round sound final w k done steps goal room less under =
+      let u = subst (λ n. Under final w k n goal room) (let one : steps - done ≡ suc (steps - (done + 1)) = omega (arith, less) in one) under in
+      let g = goes_at plans sound w k (steps - (done + 1)) goal u.drain in
+      record {
+        work = g.work;
+        fits = let logged = g.drain.logged in let fits = u.fits in omega (arith, logged, fits);
+        under = record { drain = g.drain; leads_to = u.leads_to; reached = reached_step plans w (Worker k verb.GoOn) u.reached; fits = u.fits };
+      }
+
+  module _ (w : BoardView P) (k items : ℕ) (e : items_to_drain plans.qsbr w k ≡ Ok items) (s : IsSettled w) where
+    b : Begins plans.qsbr w k items
+    b = begins plans.qsbr w k items e
+
+    rests : (some_open plans.qsbr w.layout w.readers ≡ false) × (w.grace.holder ≡ None) × (is_some b.q.holder ≡ false) × (b.x.core ≡ worker.Idle)
+    rests = not_busy plans.qsbr w b.x b.q b.quiet
+
+    empty : (b.q.items.ready ≡ []) × (b.q.items.waiting ≡ []) × (b.q.finished ≡ b.q.items.gone)
+    empty = s.rested k b.x b.q b.is b.has rests.3
+
+    -- nothing is queued
+    pub drained_none : items ≡ 0 → Drains plans k w w (Ok 0)
+    drained_none none = (ap (steps_with plans.qsbr (length w.readers)) (e ∙ ap Ok none), refl, tt, rw (b.is, b.has) (rests.3, (nil_from_length (items_of b.q.items) (b.count ∙ none), empty.2), rests.1))
+
+    -- a drain begins with its `take`
+    module _ (sound : AreSound plans) (some : 1 ≤ items) where
+      abbrev behind : ℕ
+      behind = turn_count plans.qsbr (length w.readers) + 4 + 2 * items
+
+      abbrev goal : ℕ
+      goal = length w.log + (items + 2)
+
+      first : Goes plans w k behind goal (change_of plans w (Worker k verb.Take))
+      first =
+          let fresh = sym (ap length (all_fresh b.q.items empty.0 empty.1)) ∙ b.count in
+          rw (b.is, rests.3, b.has, rests.2, some_left (items_of b.q.items) (λ none. let n = sym b.count ∙ ap length none in omega (arith, n, some)), rests.3, lt-ltb 0 (length b.q.items.fresh) (omega (arith, fresh, some)))
+          (leads plans w k behind goal b.x b.q b.is b.has rests.0 (items + 2) refl (items + 2) tt (omega arith) (omega (arith, fresh), omega (arith, fresh), (omega (arith, fresh, some), ap length empty.0, refl, refl), rests.1, s.even rests.1, b.below some))
+
+      -- all its lines are made, and lead to its end
+      whole : (steps : ℕ) → steps ≡ steps_for plans.qsbr (length w.readers) items → AreMadeFrom plans w (drain_lines k steps) × Drain plans (world_after plans w (drain_lines k steps)) k 0 goal
+      whole steps is =
+          let r = finish sound ((outcome_of plans w (Worker k verb.Take)).world) k behind goal first.drain in
+          subst (λ n. AreMadeFrom plans w (drain_lines k n) × Drain plans (world_after plans w (drain_lines k n)) k 0 goal) (sym (is ∙ steps_count plans.qsbr (length w.readers) items some)) ((first.made, r.0), r.1)
+
+      pub tells : Tells plans w k
+      tells = (steps_for plans.qsbr (length w.readers) items, ap (steps_with plans.qsbr (length w.readers)) e, let all = (ended _ k goal (whole _ refl).1).0 in omega (arith, all))
+
+      module _ (v : BoardView P) (steps room : ℕ) (count : steps ≡ steps_for plans.qsbr (length w.readers) items) where
+        pub loop_first : IsReached plans w → v ≡ (outcome_of plans w (Worker k verb.Take)).world → goal ≤ room → Under (world_after plans w (drain_lines k steps)) v k (steps - 1) goal room
+        loop_first reached is fits =
+            let n = count ∙ steps_count plans.qsbr (length w.readers) items some in
+            rw (is, n) (subst (λ m. Under (world_after plans w (drain_lines k (suc behind))) ((outcome_of plans w (Worker k verb.Take)).world) k m goal room) (let m : behind ≡ suc behind - 1 = omega arith in m)
+            (record { drain = first.drain; leads_to = refl; reached = reached_step plans w (Worker k verb.Take) reached; fits = fits }))
+
+        pub drained : IsSettled v → (done : ℕ) → steps ≤ done → Under (world_after plans w (drain_lines k steps)) v k (steps - done) goal room → Drains plans k w v (Ok steps)
+        drained settled done past under =
+            let u = subst (λ n. Under (world_after plans w (drain_lines k steps)) v k n goal room) (let none : steps - done ≡ 0 = omega (arith, past) in none) under in
+            (ap (steps_with plans.qsbr (length w.readers)) e ∙ ap Ok (sym count), u.leads_to, (whole steps count).0, (ended v k goal u.drain).1 settled)
+
+-- ---- what a worker that rests finds, on every board that lines led to
+
+settled_from : {P : Type 0} (plans : Plans P) (layout : Layout) (slots : ℕ) (laws : Laws plans layout slots) (w : BoardView P) → Logged plans layout slots laws w → slots ≤ 64 → IsSettled w
+settled_from {P} plans layout slots laws w l few = record {
+  even = λ free. l.kept.part.grace_kept.even (λ x a c p runs. none_some x (sym (ap holder_of free) ∙ l.kept.part.grace_kept.held x (subst (λ (v : Works P). Holds v) (sym runs) tt)));
+  rested = λ k x q is has idle. rw (get_or_from_slice_get w.queues k q empty_queue_state has) at (work_now plans layout slots laws w l k x worker.Idle (record { was = is; at = idle }));
+  few_readers = subst (λ n. n ≤ 64) (sym l.kept.shape.sized) few;
+}
+
+pub settles : {P : Type 0} (plans : Plans P) (laws : (layout : Layout) (slots : ℕ) → Laws plans layout slots) (w : BoardView P) → IsReached plans w → IsSettled w
+settles {P} plans laws w r = subst (λ (v : BoardView P). IsSettled v) r.leads
+    (settled_from plans r.config.layout r.config.readers (laws r.config.layout r.config.readers) _ (logged plans laws r.config r.seq r.limits r.even r.low r.lines) (within_limits r.config r.limits).readers.1)
+
+-- ---- a drain of a board, as the world shows it
+
+memb_made : (w : BoardView MembPlan) (lines : List Line) → AreMadeFrom memb_plans w lines → AreMade (OfMemb w) lines
+memb_made w [] made = tt
+memb_made w (line ∷ lines) made = (made.0, memb_made ((outcome_of memb_plans w line).world) lines made.1)
+
+qsbr_made : (w : BoardView QsbrPlan) (lines : List Line) → AreMadeFrom qsbr_plans w lines → AreMade (OfQsbr w) lines
+qsbr_made w [] made = tt
+qsbr_made w (line ∷ lines) made = (made.0, qsbr_made ((outcome_of qsbr_plans w line).world) lines made.1)
+
+pub memb_drain : (k : ℕ) (old new : BoardView MembPlan) (r : Result ℕ Refusal) → Drains memb_plans k old new r → MeetsDrain k (OfMemb old) (OfMemb new) r
+memb_drain k old new (Ok steps) d = (d.0, ap OfMemb d.1 ∙ sym (memb_lines old (drain_lines k steps)), memb_made old (drain_lines k steps) d.2, d.3)
+memb_drain k old new (Err e) (same, inl refused) = (ap OfMemb same, inl refused)
+memb_drain k old new (Err e) (same, inr (none, (steps, count, longer))) = (ap OfMemb same, inr (none, (steps, count, rw (memb_lines old (drain_lines k steps)) longer)))
+
+pub qsbr_drain : (k : ℕ) (old new : BoardView QsbrPlan) (r : Result ℕ Refusal) → Drains qsbr_plans k old new r → MeetsDrain k (OfQsbr old) (OfQsbr new) r
+qsbr_drain k old new (Ok steps) d = (d.0, ap OfQsbr d.1 ∙ sym (qsbr_lines old (drain_lines k steps)), qsbr_made old (drain_lines k steps) d.2, d.3)
+qsbr_drain k old new (Err e) (same, inl refused) = (ap OfQsbr same, inl refused)
+qsbr_drain k old new (Err e) (same, inr (none, (steps, count, longer))) = (ap OfQsbr same, inr (none, (steps, count, rw (qsbr_lines old (drain_lines k steps)) longer)))
+
+-- a drain leads from a reached board to a reached one
+reached_lines : {P : Type 0} (plans : Plans P) (w : BoardView P) (lines : List Line) → IsReached plans w → IsReached plans (world_after plans w lines)
+reached_lines plans w [] r = r
+reached_lines plans w (line ∷ lines) r = reached_lines plans ((outcome_of plans w line).world) lines (reached_step plans w line r)
+
+pub reached_drain : {P : Type 0} (plans : Plans P) (k : ℕ) (old new : BoardView P) (r : Result ℕ Refusal) → Drains plans k old new r → IsReached plans old → IsReached plans new
+reached_drain plans k old new (Ok steps) d reached = subst (IsReached plans) (sym d.1) (reached_lines plans old (drain_lines k steps) reached)
+reached_drain plans k old new (Err e) d reached = subst (IsReached plans) (sym d.0) reached

@@ -1,5 +1,7 @@
 -- Sections, asks and barriers are numbered as they begin, and objects once each.
-use Rattle.world.proofs.Cited.{◌≡◌, ◌≢◌, ◌⊎◌, inl, inr, ⊎_elim, ℕ, zero, suc, ◌+◌, ◌-◌, ◌%◌, ◌^◌, ◌≤◌, true, List, [], ◌∷◌, ◌++◌, length, slice_get, slice_set, replicate, Option, Some, None, Ok, refl, sym, ap, ◌∙◌, subst, arith, IsPermutation, length-append, get_or-set_same, get_or-set_other, cons_option, filter_map, range_with_len, filter_map-append, IsPermutation-refl, IsPermutation-sym, IsPermutation-trans, IsPermutation-middle, IsPermutation-append_right, IsPermutation-push_more, IsPermutation-pop_more, get_or_from_slice_get, slice_get_within, Event, ObjectId, Layout, SyncCore, new_core, step_of, SyncStep, Config, Line, ReaderState, ReaderStep, Holder, QueueAct, RetireStep, UpdaterPlace, Syncs, Retires, UpdaterState, WorkerState, WorkerCore, Change, Read, Work, is_within_limits, new_reader, section_of, Plans, BoardView, fresh_at, changed, idle, told, decide_number, reader_at, spliced_length}
+use Rattle.world.proofs.Cited.{◌≡◌, ◌≢◌, ◌⊎◌, inl, inr, ℕ, zero, suc, ◌+◌, ◌==◌, List, [], ◌∷◌, ◌++◌, length, slice_get, slice_set, Option, Some, None, refl, sym, ap, ◌∙◌, subst, arith, IsPermutation, append-nil, filter_map, cons_option, range_with_len, filter_map-append, length-range_with_len, IsPermutation-sym, IsPermutation-middle, eq-eqb, ne_eqb, cond-true, cond-false, none-some, same_Some, Event, Open, UpdaterState, section_of, Bool, Layout, ReaderState, ReaderStep, BoardView, told, ⊎_elim, ◌-◌, ◌%◌, ◌^◌, ◌≤◌, true, replicate, Ok, length-append, IsPermutation-refl, IsPermutation-trans, IsPermutation-append_right, IsPermutation-push_more, IsPermutation-pop_more, get_or_from_slice_get, slice_get_within, ObjectId, SyncCore, new_core, step_of, SyncStep, Config, Line, Holder, QueueAct, RetireStep, UpdaterPlace, Syncs, Retires, WorkerState, WorkerCore, Change, Read, Work, is_within_limits, new_reader, Plans, fresh_at, changed, idle, reader_at, spliced_length}
+use Rattle.world.specs.Given.{CountUp, ordinal_of, made_by, ask_of, barrier_of, object_of, IsCounted, made_at, AreGivenOnce}
+use Rattle.world.proofs.Rows.{Enters, GoesOnline, Announces, ReaderRows, ByPush, ByReplace, ByCut, ByPushed, ByReplaced, BySync, ByTurn, ByStart, ByPoll, ByHold, ByRetire, ByBarrier, ByNote, ByCheck, ByClear, UpdaterRows, WasAt, Law}
 use Rattle.rcu_model.specs.declared.event.Event.TheVariants as events
 use Rattle.call_rcu_worker.specs.declared.sync.SyncCore.TheVariants as core
 use Rattle.call_rcu_worker.specs.declared.sync.SyncStep.TheVariants as due
@@ -7,19 +9,111 @@ use Rattle.world_state.specs.declared.object.Life.TheVariants as life
 use Rattle.world_state.specs.declared.updater.Holder.TheVariants as holder
 use Rattle.world_state.specs.declared.updater.RetireStep.TheVariants as retire
 use Rattle.world.specs.declared.grace.GraceStep.{GraceStep}
-use Rattle.world.specs.Given.{ordinal_of, ask_of, barrier_of, object_of, IsCounted, made_at, made_by, AreGivenOnce}
 use Rattle.world.specs.Grace.{place_at, sync_place, grace_row}
 use Rattle.world.specs.Lines.{grace_change, world_after}
 use Rattle.world.specs.Queues.{retire_on}
 use Rattle.world.specs.Workers.{ask_for}
 use Rattle.world.proofs.Counting.{marked_length}
 use Rattle.world.proofs.Fence.{Laws}
-use Rattle.world.proofs.Given.{range_more, counts_up, Grows, none_more, given_more, opened_here, opened_else, made_same, made_more, made_less}
 use Rattle.world.proofs.GraceRows.{AsksNone, Fits, fits_step, tells}
 use Rattle.world.proofs.Logged.{get_replicate, Logged, always}
-use Rattle.world.proofs.Opening.{Opens, opens}
-use Rattle.world.proofs.Rows.{ByPush, ByReplace, ByCut, ByPushed, ByReplaced, BySync, ByTurn, ByStart, ByPoll, ByHold, ByRetire, ByBarrier, ByNote, ByCheck, ByClear, UpdaterRows, WasAt, Law}
-use Rattle.world.proofs.State.{told_by, log_after, UpdaterKept}
+use Rattle.world.proofs.State.{at_each, told_by, log_after, UpdaterKept}
+
+range_next : (a n : ℕ) → range_with_len a (suc n) ≡ range_with_len a n ++ (a + n) ∷ []
+range_next a zero = ap (λ k. k ∷ []) (omega arith)
+range_next a (suc n) = ap (λ l. a ∷ l) (range_next (a + 1) n ∙ ap (λ k. range_with_len (a + 1) n ++ k ∷ []) (omega arith))
+
+-- the numbers from 1 on, and the next one
+pub range_more : (n : ℕ) → range_with_len 1 (n + 1) ≡ range_with_len 1 n ++ (n + 1) ∷ []
+range_more n =
+    let long : n + 1 ≡ suc n = omega arith in
+    let last : 1 + n ≡ n + 1 = omega arith in
+    ap (range_with_len 1) long ∙ range_next 1 n ∙ ap (λ k. range_with_len 1 n ++ k ∷ []) last
+
+pub counts_up : (ns : List ℕ) (n : ℕ) → ns ≡ range_with_len 1 n → CountUp ns
+counts_up ns n is = is ∙ ap (range_with_len 1) (sym (ap length is ∙ length-range_with_len 1 n))
+
+-- none more is given, or the next one
+abbrev pub Grows : (Event → Option ℕ) → List Event → ℕ → ℕ → Type 0
+Grows f es n n' = ((filter_map f es ≡ []) × (n' ≡ n)) ⊎ ((filter_map f es ≡ (n + 1) ∷ []) × (n' ≡ n + 1))
+
+pub none_more : (f : Event → Option ℕ) (log es : List Event) → filter_map f es ≡ [] → filter_map f (log ++ es) ≡ filter_map f log
+none_more f log es none = filter_map-append f log es ∙ ap (λ ns. filter_map f log ++ ns) none ∙ append-nil (filter_map f log)
+
+pub given_more : (f : Event → Option ℕ) (log es : List Event) (n n' : ℕ) → Grows f es n n' → filter_map f log ≡ range_with_len 1 n → filter_map f (log ++ es) ≡ range_with_len 1 n'
+given_more f log es n n' (inl none) is = none_more f log es none.0 ∙ is ∙ ap (range_with_len 1) (sym none.1)
+given_more f log es n n' (inr next) is =
+    filter_map-append f log es ∙ ap (λ ns. filter_map f log ++ ns) next.0 ∙ ap (λ ns. ns ++ (n + 1) ∷ []) is
+    ∙ sym (range_more n) ∙ ap (range_with_len 1) (sym next.1)
+
+-- a section that opens is its reader's
+pub opened_here : (r n : ℕ) → filter_map (ordinal_of r) (Open (section_of r n) ∷ []) ≡ n ∷ []
+opened_here r n = ap (λ o. cons_option o []) (cond-true (r == r) (Some n) None (eq-eqb r r refl))
+
+pub opened_else : (r s n : ℕ) → s ≢ r → filter_map (ordinal_of s) (Open (section_of r n) ∷ []) ≡ []
+opened_else r s n other = ap (λ o. cons_option o []) (cond-false (r == s) (Some n) None (ne_eqb r s (λ e. other (sym e))))
+
+-- one of a list is there, and may be set
+record Split {X : Type 0} (xs : List X) (i : ℕ) (x : X) : Type 0 where
+  front : List X
+  back : List X
+  is : xs ≡ front ++ x ∷ back
+  set : (y : X) → slice_set xs i y ≡ front ++ y ∷ back
+
+split : {X : Type 0} (xs : List X) (i : ℕ) (x : X) → slice_get xs i ≡ Some x → Split xs i x
+split [] i x e = absurd (none-some x e)
+split (y ∷ xs) zero x e = record { front = []; back = xs; is = ap (λ z. z ∷ xs) (same_Some y x e); set = λ z. refl }
+split (y ∷ xs) (suc i) x e = let s = split xs i x e in record { front = y ∷ s.front; back = s.back; is = ap (λ l. y ∷ l) s.is; set = λ z. ap (λ l. y ∷ l) (s.set z) }
+
+module _ {P : Type 0} (us : List (UpdaterState P)) (u : ℕ) (x y : UpdaterState P) (was : slice_get us u ≡ Some x) where
+  s : Split us u x
+  s = split us u x was
+
+  abbrev made_in : List (UpdaterState P) → List ℕ
+  made_in = filter_map made_by
+
+  before : made_in us ≡ made_in s.front ++ cons_option (made_by x) (made_in s.back)
+  before = ap made_in s.is ∙ filter_map-append made_by s.front (x ∷ s.back)
+
+  after : made_in (slice_set us u y) ≡ made_in s.front ++ cons_option (made_by y) (made_in s.back)
+  after = ap made_in (s.set y) ∙ filter_map-append made_by s.front (y ∷ s.back)
+
+  pub made_same : made_by y ≡ made_by x → filter_map made_by (slice_set us u y) ≡ filter_map made_by us
+  made_same same = after ∙ ap (λ o. made_in s.front ++ cons_option o (made_in s.back)) same ∙ sym before
+
+  pub made_more : (n : ℕ) → made_by x ≡ None → made_by y ≡ Some n → IsPermutation (n ∷ filter_map made_by us) (filter_map made_by (slice_set us u y))
+  made_more n none has =
+      subst (λ l. IsPermutation (n ∷ l) (made_in (slice_set us u y))) (sym (before ∙ ap (λ o. made_in s.front ++ cons_option o (made_in s.back)) none))
+      (subst (λ l. IsPermutation (n ∷ (made_in s.front ++ made_in s.back)) l) (sym (after ∙ ap (λ o. made_in s.front ++ cons_option o (made_in s.back)) has))
+      (IsPermutation-sym _ _ (IsPermutation-middle (made_in s.front) n (made_in s.back))))
+
+  pub made_less : (n : ℕ) → made_by x ≡ Some n → made_by y ≡ None → IsPermutation (filter_map made_by us) (n ∷ filter_map made_by (slice_set us u y))
+  made_less n has none =
+      subst (λ l. IsPermutation l (n ∷ made_in (slice_set us u y))) (sym (before ∙ ap (λ o. made_in s.front ++ cons_option o (made_in s.back)) has))
+      (subst (λ l. IsPermutation (made_in s.front ++ n ∷ made_in s.back) (n ∷ l)) (sym (after ∙ ap (λ o. made_in s.front ++ cons_option o (made_in s.back)) none))
+      (IsPermutation-middle (made_in s.front) n (made_in s.back)))
+
+-- ---- what a reader's step tells: the next section, where one opens, and no ask, barrier or new object
+
+-- the reader's next section opens, or none does
+pub record Opens (r : ℕ) (v : ReaderState) (step : ReaderStep) : Type 0 where
+  pub asks : filter_map ask_of (told step.answer) ≡ []
+  pub barriers : filter_map barrier_of (told step.answer) ≡ []
+  pub objects : filter_map object_of (told step.answer) ≡ []
+  pub sections : (((s : ℕ) → filter_map (ordinal_of s) (told step.answer) ≡ []) × (step.state.ordinal ≡ v.ordinal)) ⊎
+      (((s : ℕ) → filter_map (ordinal_of s) (told step.answer) ≡ filter_map (ordinal_of s) (Open (section_of r (v.ordinal + 1)) ∷ [])) × (step.state.ordinal ≡ v.ordinal + 1))
+
+module _ {P : Type 0} (qsbr : Bool) (layout : Layout) (w : BoardView P) (r : ℕ) (v : ReaderState) where
+  none_opens : (step : ReaderStep) → filter_map ask_of (told step.answer) ≡ [] → filter_map barrier_of (told step.answer) ≡ [] → filter_map object_of (told step.answer) ≡ [] → ((s : ℕ) → filter_map (ordinal_of s) (told step.answer) ≡ []) → step.state.ordinal ≡ v.ordinal → Opens r v step
+  none_opens step asks barriers objects none same = record { asks = asks; barriers = barriers; objects = objects; sections = inl (none, same) }
+
+  pub opens : ReaderRows qsbr layout w r v (Opens r v)
+  opens _ (Enters copied word has flavour is) = record { asks = refl; barriers = refl; objects = refl; sections = inr ((λ s. refl), refl) }
+  opens _ (GoesOnline copied has flavour offline) = record { asks = refl; barriers = refl; objects = refl; sections = inr ((λ s. refl), refl) }
+  opens _ (Announces copied has flavour online) = record { asks = refl; barriers = refl; objects = refl; sections = inr ((λ s. refl), refl) }
+  opens _ _ = none_opens _ refl refl refl (λ s. refl) refl
+
+-- ---- sections, asks and barriers are numbered as they begin, and objects once each
 
 -- the updater's new object, or that none is in its hands
 module _ {P : Type 0} where
@@ -156,28 +250,19 @@ module _ {P : Type 0} (plans : Plans P) (layout : Layout) (slots : ℕ) (laws : 
   moves_read r v step was o = record {
     asks = inl (o.asks, refl);
     barriers = inl (o.barriers, refl);
-    sections = λ s. by s (decide_number s r);
+    sections = at_each new_reader (λ s y. Grows (ordinal_of s) (told step.answer) (reader_at w.readers s).ordinal y.ordinal) w.readers r step.state (slice_get_within w.readers r v was) here (λ s other. inl (none s other, refl));
     objects = inl (o.objects, refl, refl);
   }
     where
-      es : List Event
-      es = told step.answer
-
       old : (reader_at w.readers r).ordinal ≡ v.ordinal
       old = ap (λ (y : ReaderState). y.ordinal) (get_or_from_slice_get w.readers r v new_reader was)
 
-      new : (reader_at (slice_set w.readers r step.state) r).ordinal ≡ step.state.ordinal
-      new = ap (λ (y : ReaderState). y.ordinal) (get_or-set_same w.readers r step.state new_reader (slice_get_within w.readers r v was))
-
-      Here : Type 0
-      Here = Grows (ordinal_of r) (told step.answer) (reader_at w.readers r).ordinal (reader_at (slice_set w.readers r step.state) r).ordinal
-
-      here : Grows (ordinal_of r) (told step.answer) (reader_at w.readers r).ordinal (reader_at (slice_set w.readers r step.state) r).ordinal
+      here : Grows (ordinal_of r) (told step.answer) (reader_at w.readers r).ordinal step.state.ordinal
       here =
           ⊎_elim
-          (λ (n : ((s : ℕ) → filter_map (ordinal_of s) (told step.answer) ≡ []) × (step.state.ordinal ≡ v.ordinal)). inl (n.0 r, new ∙ n.1 ∙ sym old))
+          (λ (n : ((s : ℕ) → filter_map (ordinal_of s) (told step.answer) ≡ []) × (step.state.ordinal ≡ v.ordinal)). inl (n.0 r, n.1 ∙ sym old))
           (λ (n : ((s : ℕ) → filter_map (ordinal_of s) (told step.answer) ≡ filter_map (ordinal_of s) (events.Open (section_of r (v.ordinal + 1)) ∷ [])) × (step.state.ordinal ≡ v.ordinal + 1)).
-          inr (n.0 r ∙ opened_here r (v.ordinal + 1) ∙ ap (λ k. (k + 1) ∷ []) (sym old), new ∙ n.1 ∙ ap (λ k. k + 1) (sym old)))
+          inr (n.0 r ∙ opened_here r (v.ordinal + 1) ∙ ap (λ k. (k + 1) ∷ []) (sym old), n.1 ∙ ap (λ k. k + 1) (sym old)))
           o.sections
 
       none : (s : ℕ) → s ≢ r → filter_map (ordinal_of s) (told step.answer) ≡ []
@@ -187,10 +272,6 @@ module _ {P : Type 0} (plans : Plans P) (layout : Layout) (slots : ℕ) (laws : 
           (λ (n : ((s : ℕ) → filter_map (ordinal_of s) (told step.answer) ≡ filter_map (ordinal_of s) (events.Open (section_of r (v.ordinal + 1)) ∷ [])) × (step.state.ordinal ≡ v.ordinal + 1)).
           n.0 s ∙ opened_else r s (v.ordinal + 1) other)
           o.sections
-
-      by : (s : ℕ) → (s ≡ r) ⊎ (s ≢ r) → Grows (ordinal_of s) (told step.answer) (reader_at w.readers s).ordinal (reader_at (slice_set w.readers r step.state) s).ordinal
-      by s (inl e) = subst (λ t. Grows (ordinal_of t) (told step.answer) (reader_at w.readers t).ordinal (reader_at (slice_set w.readers r step.state) t).ordinal) (sym e) here
-      by s (inr n) = inl (none s n, ap (λ (y : ReaderState). y.ordinal) (get_or-set_other w.readers r s step.state new_reader n))
 
   moves_updates : (u : ℕ) (x : UpdaterState P) → UpdaterRows plans w u x (λ v. MovesBy w)
   moves_updates u x _ _ (ByPush c head at is mine) = unnumbered w _ _ refl refl refl refl (λ r. refl) (λ r. refl) (inr (inl (refl, length-append w.objects _, made_more w.updaters u x _ at.was (length w.objects) (ap made_at at.at) refl)))

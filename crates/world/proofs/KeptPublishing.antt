@@ -1,11 +1,10 @@
 -- What the steps of updaters that publish, replace and cut keep, and that what they tell may come.
-use Rattle.world.proofs.Cited.{◌≡◌, ◌≢◌, ◌⊎◌, at_number, ⊎_elim, ℕ, true≢false, inl, inr, ◌<◌, ◌%◌, ◌&&◌, cond, Bool, true, false, List, [], ◌∷◌, ◌++◌, length, slice_get, slice_set, Option, Some, None, Ok, refl, sym, ap, ◌∙◌, subst, arith, length-set, eqb-true, and_parts, none-some, same_Some, slice_get_within, get_or_from_slice_get, Event, Push, Replace, Cut, ObjectId, without_object, next_of, replaced, at_object, State, IsAllowed, after, In, in_objects, has_object_in, at_number_same, at_number_other, at_object_same, at_object_other, follows, some_is, none_some, Spliced, push_splices, cut_splices, replace_splices, Layout, Stage, Fresh, Linked, ObjectState, Splice, Publishing, UpdaterState, UpdaterPlace, Idle, Publishes, Syncs, Begin, Publish, fresh_object, is_linked, spliced_heads, spliced_objects, Plans, BoardView, idle, changed, no_object, object_at, head_of, link_of, before_of, stage_of, chain_of, grown_same, LinksKept, FreshIn, PlaceKept, Fits, Follows, monotone, links_spliced, place_spliced, new_object, new_within, stage_grown, links_grown, place_grown, reader_at, readers_over}
+use Rattle.world.proofs.Cited.{◌≡◌, ◌≢◌, ◌⊎◌, at_number, ⊎_elim, ℕ, true≢false, inl, inr, ◌<◌, ◌%◌, ◌&&◌, cond, Bool, true, false, List, [], ◌∷◌, ◌++◌, length, slice_get, slice_set, Option, Some, None, Ok, refl, sym, ap, ◌∙◌, subst, arith, length-set, eqb-true, and_parts, none-some, same_Some, slice_get_within, get_or_from_slice_get, Event, Push, Replace, Cut, ObjectId, without_object, next_of, replaced, at_object, State, IsAllowed, after, In, in_objects, has_object_in, at_number_same, at_number_other, at_object_same, at_object_other, follows, some_is, none_some, Spliced, push_splices, cut_splices, replace_splices, Layout, Stage, Fresh, Linked, ObjectState, Splice, Publishing, UpdaterState, UpdaterPlace, Idle, Publishes, Syncs, Begin, Publish, fresh_object, is_linked, spliced_heads, spliced_objects, Plans, BoardView, idle, changed, no_object, object_at, head_of, link_of, before_of, stage_of, chain_of, grown_same, LinksKept, FreshIn, PlaceKept, Fits, Follows, monotone, links_spliced, place_spliced, new_object, new_within, stage_grown, links_grown, place_grown, reader_at, readers_over, ◌+◌, ◌^◌, ◌≤◌, get_or-set_other, get_or-set_same, SectionId, Mark, QueueState, GraceState, WorkerState, marked_life, new_worker, links_marked, place_marked, stage_marked}
 use Rattle.world_state.specs.declared.object.Stage.TheVariants.{Cut as IsCut}
 use Rattle.world_state.specs.declared.updater.Publishing.TheVariants as publishing
 use Rattle.world.specs.Chains.{writes, next_object, linked_by}
-use Rattle.world.proofs.Fence.{Work, Rests, Laws, Sets}
-use Rattle.world.proofs.Periods.{Part}
-use Rattle.world.proofs.State.{Asker, Syncing, decide_asker, place_work, updater_at, work_of, holder_of, word_at, UpdaterKept, Kept, Owes, work_set, at_updaters}
+use Rattle.world.proofs.Fence.{Work, Rests, Laws, Sets, Part, set_same}
+use Rattle.world.proofs.State.{Asker, Syncing, decide_asker, place_work, updater_at, work_of, holder_of, word_at, UpdaterKept, Kept, Owes, work_set, at_updaters, Polling, Working, worker_work, worker_at}
 use Rattle.world.proofs.KeptReaders.{log_longer}
 
 module _ {P : Type 0} (plans : Plans P) (layout : Layout) (slots : ℕ) (laws : Laws plans layout slots) (w : BoardView P) (now : State) (k : Kept plans layout slots laws w now) where
@@ -36,19 +35,10 @@ module _ {P : Type 0} (plans : Plans P) (layout : Layout) (slots : ℕ) (laws : 
 
   -- an updater that rests goes on resting
   pub rests_still : (u : ℕ) (x x' : UpdaterState P) → There u x → x'.started ≡ x.started → place_work x.place ≡ Rests → place_work x'.place ≡ Rests → PartFor (slice_set w.updaters u x')
-  rests_still u x x' t polls was is = subst (λ (works : Asker → Work P). Part plans layout slots laws decide_asker (holder_of w.grace.holder) works (word_at w.readers) w.grace.asks w.grace.seq w.grace.word now.asked now.answered now.asked_sections now.sections) same k.part
-    where
-      s : Sets (work_of w.updaters w.workers) (work_of (slice_set w.updaters u x') w.workers) (Syncing u) (place_work x'.place)
-      s = work_set plans layout slots laws w.updaters w.workers u x' t.inside (polls ∙ sym (ap (λ (y : UpdaterState P). y.started) t.is))
-
-      each : (y : Asker) → work_of w.updaters w.workers y ≡ work_of (slice_set w.updaters u x') w.workers y
-      each y = ⊎_elim
-          (λ (e : y ≡ Syncing u). ap (work_of w.updaters w.workers) e ∙ ap (λ (z : UpdaterState P). place_work z.place) t.is ∙ was ∙ sym is ∙ sym s.here ∙ ap (work_of (slice_set w.updaters u x') w.workers) (sym e))
-          (λ (n : y ≢ Syncing u). sym (s.others y n))
-          (decide_asker y (Syncing u))
-
-      same : work_of w.updaters w.workers ≡ work_of (slice_set w.updaters u x') w.workers
-      same = λ i y. each y i
+  rests_still u x x' t polls was is =
+      subst (λ (works : Asker → Work P). Part plans layout slots laws decide_asker (holder_of w.grace.holder) works (word_at w.readers) w.grace.asks w.grace.seq w.grace.word now.asked now.answered now.asked_sections now.sections)
+      (set_same decide_asker (work_of w.updaters w.workers) (work_of (slice_set w.updaters u x') w.workers) (Syncing u) (place_work x'.place)
+      (work_set plans layout slots laws w.updaters w.workers u x' t.inside (polls ∙ sym (ap (λ (y : UpdaterState P). y.started) t.is))) (ap (λ (z : UpdaterState P). place_work z.place) t.is ∙ was ∙ sym is)) k.part
 
   -- a state is set, and the others are as before
   pub places_set : (heads' : List (Option ObjectId)) (os' : List ObjectState) (u : ℕ) (x' : UpdaterState P) → u < count → UpdaterKept heads' os' count u x'.place →
@@ -265,3 +255,80 @@ module _ {P : Type 0} (plans : Plans P) (layout : Layout) (slots : ℕ) (laws : 
       (replace_splices xs o m (before_of w.objects o) ck.once new h (ck.befores o h).0 (ck.befores o h).1)
       (λ p e. subst (λ (q : ObjectId). FreshIn w.objects q × (chain_of w.objects q ≡ chain_of w.objects o) × (link_of w.objects q ≡ link_of w.objects o)) (some_is m p e) (mine.0, sym mine.3, mine.4))
       (λ p h. ⊎_elim (λ (e : m ≡ p). inl (ap Some e)) (λ (g : In now.used p). inr g) h) (has_object_in xs o h, λ g. links.used_known m (in_objects now.used m g) mine.0.0) refl)
+
+-- ---- what steps with queues, objects' headers and barriers leave of all else
+
+module _ {P : Type 0} (plans : Plans P) (layout : Layout) (slots : ℕ) (laws : Laws plans layout slots) (w : BoardView P) (now : State) (k : Kept plans layout slots laws w now) where
+  abbrev PartBy : (Asker → Work P) → Type 0
+  PartBy works = Part plans layout slots laws decide_asker (holder_of w.grace.holder) works (word_at w.readers) w.grace.asks w.grace.seq w.grace.word now.asked now.answered now.asked_sections now.sections
+
+  pub kept_updater : (u : ℕ) (x x' : UpdaterState P) (queues' : List QueueState) (mark : Option Mark) (barriers' : ℕ) (log' : List Event) → There plans layout slots laws w now k u x → length w.log ≤ length log' →
+      ((os : List ObjectState) → UpdaterKept w.heads os (length w.updaters) u x'.place) → x'.started ≡ x.started → place_work x.place ≡ Rests → place_work x'.place ≡ Rests →
+      Kept plans layout slots laws (record w { updaters = slice_set w.updaters u x'; queues = queues'; objects = marked_life w.objects mark; barriers = barriers'; log = log' }) now
+  kept_updater u x x' queues' mark barriers' log' t longer place polls was is = record {
+    shape = k.shape;
+    links_kept = links_marked w.objects mark w.heads now.chain now.used now.cut now.successor k.links_kept;
+    places_kept = places_set plans layout slots laws w now k w.heads (marked_life w.objects mark) u x' t.inside (place (marked_life w.objects mark))
+        (λ v p _ h. over_places plans layout slots laws w now k w.heads (marked_life w.objects mark) v (λ q. place_marked w.objects mark w.heads (length w.updaters) v q) p h);
+    readers_kept = readers_over plans.qsbr layout w.readers w.grace.word w.grace.word w.objects (marked_life w.objects mark) now.sections now.seen now.held (λ _. omega arith) (λ o known e. known (sym (stage_marked w.objects mark o) ∙ e)) k.readers_kept;
+    part = rests_still plans layout slots laws w now k u x x' t polls was is;
+    ordinals = λ r. let low = k.ordinals r in omega (arith, low, longer);
+    asks_low = let low = k.asks_low in omega (arith, low, longer);
+    seq_low = k.seq_low;
+    phase_low = k.phase_low;
+  }
+
+  -- one worker's work is set
+  pub worker_set : (n : ℕ) (x : WorkerState P) → n < length w.workers → Sets (work_of w.updaters w.workers) (work_of w.updaters (slice_set w.workers n x)) (Working n) (worker_work x.ask x.core)
+  worker_set n x inside = record {
+    here = ap (λ (y : WorkerState P). worker_work y.ask y.core) (get_or-set_same w.workers n x new_worker inside);
+    others = others;
+  }
+    where
+      others : (y : Asker) → y ≢ Working n → work_of w.updaters (slice_set w.workers n x) y ≡ work_of w.updaters w.workers y
+      others (Syncing v) apart = refl
+      others (Polling v) apart = refl
+      others (Working m) apart = ap (λ (y : WorkerState P). worker_work y.ask y.core) (get_or-set_other w.workers n m x new_worker (λ e. apart (ap Working e)))
+
+  -- a worker that rests goes on resting
+  works_still : (n : ℕ) (x : WorkerState P) → n < length w.workers → worker_work (worker_at w.workers n).ask (worker_at w.workers n).core ≡ Rests → worker_work x.ask x.core ≡ Rests → PartBy (work_of w.updaters (slice_set w.workers n x))
+  works_still n x inside was is = subst PartBy (set_same decide_asker (work_of w.updaters w.workers) (work_of w.updaters (slice_set w.workers n x)) (Working n) (worker_work x.ask x.core) (worker_set n x inside) (was ∙ sym is)) k.part
+
+  -- a worker's step, with what it makes of grace periods
+  pub kept_work : (n : ℕ) (x : WorkerState P) (queues' : List QueueState) (mark : Option Mark) (grace : GraceState) (log' : List Event) (asked answered : List ℕ) (awaited : ℕ → List SectionId) → length w.log ≤ length log' →
+      (plans.qsbr ≡ true → w.grace.word ≤ grace.word) → (plans.qsbr ≡ false → grace.word ≤ 1) → grace.seq ≤ 2 ^ 62 + 2 → grace.asks ≤ length log' →
+      Part plans layout slots laws decide_asker (holder_of grace.holder) (work_of w.updaters (slice_set w.workers n x)) (word_at w.readers) grace.asks grace.seq grace.word asked answered awaited now.sections →
+      Kept plans layout slots laws (record w { workers = slice_set w.workers n x; queues = queues'; objects = marked_life w.objects mark; grace = grace; log = log' }) (record now { asked = asked; answered = answered; asked_sections = awaited })
+  kept_work n x queues' mark grace log' asked answered awaited longer rises phase low asks part = record {
+    shape = k.shape;
+    links_kept = links_marked w.objects mark w.heads now.chain now.used now.cut now.successor k.links_kept;
+    places_kept = λ v. over_places plans layout slots laws w now k w.heads (marked_life w.objects mark) v (λ q. place_marked w.objects mark w.heads (length w.updaters) v q) (updater_at w.updaters v).place (k.places_kept v);
+    readers_kept = readers_over plans.qsbr layout w.readers w.grace.word grace.word w.objects (marked_life w.objects mark) now.sections now.seen now.held rises (λ o known e. known (sym (stage_marked w.objects mark o) ∙ e)) k.readers_kept;
+    part = part;
+    ordinals = λ r. let low = k.ordinals r in omega (arith, low, longer);
+    asks_low = asks;
+    seq_low = low;
+    phase_low = phase;
+  }
+
+  -- and a step that does nothing with grace periods
+  pub kept_worker : (n : ℕ) (x : WorkerState P) (queues' : List QueueState) (mark : Option Mark) (log' : List Event) → n < length w.workers → length w.log ≤ length log' →
+      worker_work (worker_at w.workers n).ask (worker_at w.workers n).core ≡ Rests → worker_work x.ask x.core ≡ Rests →
+      Kept plans layout slots laws (record w { workers = slice_set w.workers n x; queues = queues'; objects = marked_life w.objects mark; log = log' }) now
+  kept_worker n x queues' mark log' inside longer was is =
+      kept_work n x queues' mark w.grace log' now.asked now.answered now.asked_sections longer (λ q. omega arith) k.phase_low k.seq_low (let low = k.asks_low in omega (arith, low, longer)) (works_still n x inside was is)
+
+  -- nothing of this is kept beside retirements and barriers
+  pub beside : (retired queued reclaimed : List ObjectId) (awaited : ObjectId → List SectionId) (noted cleared : List ℕ) (noted_objects : ℕ → List ObjectId) →
+      Kept plans layout slots laws w (record now { retired = retired; queued = queued; reclaimed = reclaimed; awaited = awaited; noted = noted; cleared = cleared; noted_objects = noted_objects })
+  beside retired queued reclaimed awaited noted cleared noted_objects = record {
+    shape = k.shape;
+    links_kept = k.links_kept;
+    places_kept = k.places_kept;
+    readers_kept = k.readers_kept;
+    part = k.part;
+    ordinals = k.ordinals;
+    asks_low = k.asks_low;
+    seq_low = k.seq_low;
+    phase_low = k.phase_low;
+  }

@@ -1,19 +1,9 @@
 -- What the steps of readers keep, and that what they tell may come.
-use Rattle.world.proofs.Cited.{slice_get-get_or, slice_get_past, get_past, past_or_within, get_or, ◌≡◌, ◌≢◌, ◌⊎◌, inl, inr, ⊎_elim, ℕ, ◌+◌, ◌<◌, ◌≤◌, ◌==◌, not, Bool, true, false, List, [], ◌∷◌, ◌++◌, length, slice_get, slice_set, Option, Some, None, Ok, refl, sym, ap, ◌∙◌, subst, arith, true≢false, length-append, get_or-set_other, get_or-set_same, length-set, eqb-true, eqb-false, ne_eqb, slice_get_within, get_or_from_slice_get, Event, Open, Close, First, Next, Touch, ObjectId, SectionId, without_section, at_section, first_of, next_of, State, got, IsSuccessor, In, in_sections, has_section_in, in_objects, has_object_in, in_left, in_last, in_more, section_tells, Tells, without_section_has, has_without_section, at_section_same, at_section_other, some_is, none_some, first_has, follows_has, same_section, Layout, count_of, phase_in, is_open_of, left_of, is_online, announced, entered_of-nests, entered_of-opens, left_of-nests, Shows, Answer, Events, Quiet, ReaderState, ReaderStep, ObjectState, Stage, Fresh, Linked, Read, Plans, BoardView, told, changed, section_of, new_reader, is_open_in, quietly, telling, with_word, opened, closed, with_cursor, found_row, no_object, link_of, stage_of, chain_of, LinksKept, decide_number, reader_at, ReaderKept, readers_set}
+use Rattle.world.proofs.Cited.{slice_get-get_or, slice_get_past, get_past, past_or_within, get_or, ◌≡◌, ◌≢◌, ◌⊎◌, inl, ⊎_elim, ℕ, ◌+◌, ◌<◌, ◌≤◌, ◌==◌, not, Bool, true, false, List, [], ◌∷◌, ◌++◌, length, slice_get, slice_set, Option, Some, None, Ok, refl, sym, ap, ◌∙◌, subst, arith, true≢false, length-append, length-set, eqb-true, eqb-false, ne_eqb, slice_get_within, get_or_from_slice_get, Event, Open, Close, First, Next, Touch, ObjectId, SectionId, without_section, at_section, first_of, next_of, State, got, IsSuccessor, In, in_sections, has_section_in, in_objects, has_object_in, in_left, in_last, in_more, without_section_has, has_without_section, at_section_same, at_section_other, some_is, none_some, first_has, follows_has, Layout, count_of, phase_in, is_open_of, left_of, is_online, announced, entered_of-nests, entered_of-opens, left_of-nests, Shows, Answer, Events, Quiet, ReaderState, ReaderStep, ObjectState, Stage, Fresh, Linked, Read, Plans, BoardView, told, changed, section_of, new_reader, is_open_in, quietly, telling, with_word, opened, closed, with_cursor, found_row, no_object, link_of, stage_of, chain_of, LinksKept, reader_at, ReaderKept, readers_set}
 use Rattle.world_state.specs.declared.object.Stage.TheVariants.{Cut as IsCut}
-use Rattle.world.proofs.Fence.{Laws}
-use Rattle.world.proofs.Periods.{part_words}
-use Rattle.world.proofs.Rows.{Copies, Nests, Unnests, Unlocks, Leaves, Enters, GoesOnline, Announces, Firsts, Nexts, Touches, ReaderRows}
-use Rattle.world.proofs.State.{decide_asker, holder_of, work_of, word_at, Kept, Owes}
-use Rattle.world.proofs.Tests.{not_false}
-
--- a section is that of its reader and its ordinal
-decide_section : (s t : SectionId) → (s ≡ t) ⊎ (s ≢ t)
-decide_section s t = by (section_tells s t)
-  where
-    by : Tells (same_section s t) s t → (s ≡ t) ⊎ (s ≢ t)
-    by (inl y) = inl y.1
-    by (inr n) = inr n.1
+use Rattle.world.proofs.Fence.{Laws, part_words}
+use Rattle.world.proofs.Rows.{Copies, Nests, Unnests, Unlocks, Leaves, Enters, GoesOnline, Announces, Firsts, Nexts, Touches, ReaderRows, not_false}
+use Rattle.world.proofs.State.{at_each, decide_asker, holder_of, work_of, word_at, Kept, Owes}
 
 -- what is read of an entry of a list, there or past its end
 pub entry_is : {X Y : Type 0} (f : Option X → Y) (xs : List X) (i : ℕ) (d : X) → f None ≡ f (Some d) → f (slice_get xs i) ≡ f (Some (get_or xs i d))
@@ -85,42 +75,16 @@ module _ {P : Type 0} (plans : Plans P) (layout : Layout) (slots : ℕ) (laws : 
     readers_kept = readers_set plans.qsbr layout w.readers number w.objects now.sections sections' now.seen seen' now.held held' r v' t.inside c.mine c.sees c.opens c.closes c.holds k.readers_kept;
     part = part_words plans layout slots laws decide_asker (holder_of w.grace.holder) (work_of w.updaters w.workers) (word_at w.readers) (word_at (slice_set w.readers r v')) w.grace.asks w.grace.seq number now.asked now.answered now.asked_sections asked' now.sections sections'
         words c.awaits k.part;
-    ordinals = λ x. ordinals x (decide_number x r);
+    ordinals = at_each new_reader (λ x y. y.ordinal ≤ length (w.log ++ told answer)) w.readers r v' t.inside ordinal (λ x apart. log_longer w.log (told answer) (reader_at w.readers x).ordinal (k.ordinals x));
     asks_low = log_longer w.log (told answer) w.grace.asks k.asks_low;
     seq_low = k.seq_low;
     phase_low = k.phase_low;
   }
     where
-      Next : SectionId → Type 0
-      Next s = (mark : ℕ) → shows mark (word_at w.readers s.reader) → shows mark (word_at (slice_set w.readers r v') s.reader)
-
-      words : (a : ℕ) (s : SectionId) → In (asked' a) s → In now.sections s → In (now.asked_sections a) s × In sections' s × Next s
-      words a s h o = by (decide_number s.reader r)
-        where
-          by : (s.reader ≡ r) ⊎ (s.reader ≢ r) → In (now.asked_sections a) s × In sections' s × Next s
-          by (inl e) =
-              let m = c.marks a s h o e in (
-                c.awaits a s h,
-                m.0,
-                λ mark shown.
-                    let at : word_at (slice_set w.readers r v') s.reader ≡ v'.word =
-                    ap (λ n. word_at (slice_set w.readers r v') n) e ∙ ap (λ (x : ReaderState). x.word) (get_or-set_same w.readers r v' new_reader t.inside) in
-                    let was : word_at w.readers s.reader ≡ v.word = ap (λ n. word_at w.readers n) e ∙ ap (λ (x : ReaderState). x.word) t.is in
-                    subst (shows mark) (sym at) (m.1 mark (subst (shows mark) was shown)),
-              )
-          by (inr n) = (
-            c.awaits a s h,
-            c.opens s.reader s.ordinal n o,
-            λ mark shown. subst (shows mark) (sym (ap (λ (x : ReaderState). x.word) (get_or-set_other w.readers r s.reader v' new_reader n))) shown,
-          )
-
-      ordinals : (x : ℕ) → (x ≡ r) ⊎ (x ≢ r) → (reader_at (slice_set w.readers r v') x).ordinal ≤ length (w.log ++ told answer)
-      ordinals x (inl e) =
-          subst (λ (y : ReaderState). y.ordinal ≤ length (w.log ++ told answer))
-          (sym (ap (λ n. reader_at (slice_set w.readers r v') n) e ∙ get_or-set_same w.readers r v' new_reader t.inside)) ordinal
-      ordinals x (inr n) =
-          subst (λ (y : ReaderState). y.ordinal ≤ length (w.log ++ told answer)) (sym (get_or-set_other w.readers r x v' new_reader n))
-          (log_longer w.log (told answer) (reader_at w.readers x).ordinal (k.ordinals x))
+      words : (a : ℕ) (s : SectionId) → In (asked' a) s → In now.sections s → In (now.asked_sections a) s × In sections' s × ((mark : ℕ) → shows mark (word_at w.readers s.reader) → shows mark (word_at (slice_set w.readers r v') s.reader))
+      words a s h o = at_each new_reader (λ n y. s.reader ≡ n → In (now.asked_sections a) s × In sections' s × ((mark : ℕ) → shows mark (word_at w.readers n) → shows mark y.word)) w.readers r v' t.inside
+          (λ e. let m = c.marks a s h o e in (c.awaits a s h, m.0, λ mark shown. m.1 mark (subst (shows mark) (ap (λ (x : ReaderState). x.word) t.is) shown)))
+          (λ n apart e. (c.awaits a s h, c.opens s.reader s.ordinal (λ f. apart (sym e ∙ f)) o, λ mark shown. shown)) s.reader refl
 
   abbrev pub OwesRead : ℕ → ReaderStep → Type 0
   OwesRead r step = Owes plans layout slots laws w now (Ok (Read r step))
@@ -304,13 +268,10 @@ module _ {P : Type 0} (plans : Plans P) (layout : Layout) (slots : ℕ) (laws : 
       s : SectionId
       s = section_of r v.ordinal
 
-  open_section : (r : ℕ) (v : ReaderState) → There r v → is_in v.word ≡ true → In now.sections (section_of r v.ordinal)
-  open_section r v t is = t.mine.opened is
-
   owes_first : (r : ℕ) (v : ReaderState) (c : ℕ) (head : Option ObjectId) → There r v → is_in v.word ≡ true → slice_get w.heads c ≡ Some head → OwesRead r (found_row v head (First (section_of r v.ordinal) c head))
   owes_first r v c head t is at_c =
       let first : first_of (now.chain c) ≡ head = sym ((k.links_kept.chains c).words None tt) ∙ get_or_from_slice_get w.heads c head None at_c in (
-        ((has_section_in now.sections (section_of r v.ordinal) (open_section r v t is), first), tt),
+        ((has_section_in now.sections (section_of r v.ordinal) (t.mine.opened is), first), tt),
         kept_got r v (First (section_of r v.ordinal) c head) head t is
             (λ o e f. cc (sym (k.links_kept.linked c o (first_has (now.chain c) o (first ∙ e))).0 ∙ f)),
       )
@@ -346,13 +307,13 @@ module _ {P : Type 0} (plans : Plans P) (layout : Layout) (slots : ℕ) (laws : 
       let same : link_of w.objects o ≡ x.link = ap (λ (y : ObjectState). y.link) (get_or_from_slice_get w.objects o.0 x no_object at_o) in
       let held = t.mine.holds o from in
       let next = successor_at o held.2 in (
-        ((has_section_in now.sections (section_of r v.ordinal) (open_section r v t is), has_object_in (now.held (section_of r v.ordinal)) o held.1, subst (IsSuccessor now o) same next.0), tt),
+        ((has_section_in now.sections (section_of r v.ordinal) (t.mine.opened is), has_object_in (now.held (section_of r v.ordinal)) o held.1, subst (IsSuccessor now o) same next.0), tt),
         kept_got r v (Next (section_of r v.ordinal) o x.link) x.link t is (λ f g. next.1 f (same ∙ g)),
       )
 
   owes_touch : (r : ℕ) (v : ReaderState) (o : ObjectId) → There r v → is_in v.word ≡ true → v.cursor ≡ Some o → OwesRead r (telling (Touch (section_of r v.ordinal) o) v)
   owes_touch r v o t is from = (
-    ((has_section_in now.sections (section_of r v.ordinal) (open_section r v t is), has_object_in (now.held (section_of r v.ordinal)) o (t.mine.holds o from).1), tt),
+    ((has_section_in now.sections (section_of r v.ordinal) (t.mine.opened is), has_object_in (now.held (section_of r v.ordinal)) o (t.mine.holds o from).1), tt),
     same_sections r v v (Events (Touch (section_of r v.ordinal) o) None) now.held t t.mine (λ x n o _ h. h) (λ mark s _ _ h. h) refl,
   )
 

@@ -1,10 +1,13 @@
 -- What a section's word is made of: the phase or number that was present at its reader's line before.
-use Rattle.world.proofs.Cited.{◌≡◌, ◌≢◌, ◌⊎◌, ℕ, true≢false, inl, inr, ◌==◌, cond, Bool, true, false, IsTrue, List, [], ◌∷◌, ◌++◌, get_or, slice_get, slice_set, Option, Some, None, Result, Ok, Err, refl, sym, ap, ◌∙◌, subst, get_or-set_same, get_or-set_other, cond-true, cond-false, eqb_tells, get_or_from_slice_get, slice_get_within, Refusal, Layout, count_of, fresh, entered_of, announced, Config, Answer, Line, Reader, Updater, Worker, ReaderState, ReaderStep, Change, Read, Stay, new_reader, quietly, with_word, announce_row, go_online_row, Plans, BoardView, changed, told, fresh_at}
-use Rattle.world.specs.Lines.{with_change, outcome_of, change_of}
+use Rattle.world.proofs.Cited.{◌≡◌, ◌≢◌, ◌⊎◌, ℕ, true≢false, inl, inr, ◌==◌, cond, Bool, true, false, IsTrue, List, [], ◌∷◌, ◌++◌, get_or, slice_get, slice_set, Option, Some, None, Result, Ok, Err, refl, sym, ap, ◌∙◌, subst, get_or-set_same, get_or-set_other, cond-true, cond-false, eqb_tells, get_or_from_slice_get, slice_get_within, Refusal, Layout, count_of, fresh, entered_of, announced, Config, Answer, Line, Reader, Updater, Worker, ReaderState, ReaderStep, Change, Read, Stay, new_reader, quietly, with_word, announce_row, go_online_row, Plans, BoardView, changed, fresh_at, QsbrPlan, Flavour, Memb, Qsbr, ReaderVerb}
+use Rattle.world.specs.Lines.{with_change, outcome_of, change_of, of_reader}
 use Rattle.world.specs.Loads.{Move, opens_section, word_for, StoresWhatItLoaded, made_by, move_of, moves_of}
-use Rattle.world.specs.Steps.{IsOfReader}
+use Rattle.world.specs.Steps.{IsOfReader, IsStalled, OfQsbr, qsbr_plans, fresh_in}
 use Rattle.world.proofs.Logged.{get_replicate}
 use Rattle.world.proofs.Rows.{Copies, Nests, Unnests, Unlocks, Leaves, Enters, GoesOnline, Announces, Firsts, Nexts, Touches, ReaderRows, IsUpdate, any_retires, any_updates, any_works, Each, Law, by_law}
+use Rattle.world.specs.Layouts.{answers_to, laid_out}
+use Rattle.world.specs.Row.{made}
+use Rattle.world_state.specs.declared.line.ReaderVerb.TheVariants as reader
 
 -- a lock of a closed word stores a fresh one
 entered_fresh : (layout : Layout) (word after : ℕ) (phase : Bool) → (count_of layout word == 0) ≡ true → entered_of layout word phase ≡ Ok after → after ≡ fresh layout phase
@@ -85,9 +88,9 @@ module _ {P : Type 0} (plans : Plans P) where
   ReadsOver w (Reader k verb) change = ReadsBy w k change
   ReadsOver w _ change = (changed w change).readers ≡ w.readers
 
-  stays_over : (w : BoardView P) (line : Line) (answer : Answer) → (IsOfReader line → ⊥) → told answer ≡ [] → ReadsOver w line (Stay answer)
-  stays_over w (Reader k verb) answer never none = absurd (never tt)
-  stays_over w _ answer never none = refl
+  stays_over : (w : BoardView P) (line : Line) (answer : Answer) → (IsOfReader line → ⊥) → IsStalled answer → ReadsOver w line (Stay answer)
+  stays_over w (Reader k verb) answer never stalled = absurd (never tt)
+  stays_over w _ answer never stalled = refl
 
   reads_law : (w : BoardView P) → Law plans w (ReadsOver w)
   reads_law w = record {
@@ -101,15 +104,15 @@ module _ {P : Type 0} (plans : Plans P) where
   moves_by r w (Reader k verb) x = cond (k == r) (made_by plans r w (with_change w x).world (with_change w x).answer) []
   moves_by r w _ x = []
 
-  -- what follows a line, where the reader fits
-  record Goes (w : BoardView P) (r : ℕ) (loaded : Option ℕ) (l : Line) (x : Result (Change P) Refusal) : Type 0 where
+  -- what follows a line that makes these moves, where the reader fits
+  record Goes (w next : BoardView P) (r : ℕ) (loaded : Option ℕ) (moves : List Move) : Type 0 where
     pub later : Option ℕ
-    pub fits : Fits (with_change w x).world r later
-    pub stores : (ms : List Move) → StoresWhatItLoaded plans.qsbr w.layout later ms → StoresWhatItLoaded plans.qsbr w.layout loaded (moves_by r w l x ++ ms)
+    pub fits : Fits next r later
+    pub stores : (ms : List Move) → StoresWhatItLoaded plans.qsbr w.layout later ms → StoresWhatItLoaded plans.qsbr w.layout loaded (moves ++ ms)
 
   -- it makes no move, and is as it was
-  no_move : (w : BoardView P) (r : ℕ) (loaded : Option ℕ) (l : Line) (x : Result (Change P) Refusal) → moves_by r w l x ≡ [] → reader_of (with_change w x).world r ≡ reader_of w r → Fits w r loaded → Goes w r loaded l x
-  no_move w r loaded l x none same fits = record {
+  no_move : (w : BoardView P) (r : ℕ) (loaded : Option ℕ) (x : Result (Change P) Refusal) (moves : List Move) → moves ≡ [] → reader_of (with_change w x).world r ≡ reader_of w r → Fits w r loaded → Goes w (with_change w x).world r loaded moves
+  no_move w r loaded x moves none same fits = record {
     later = loaded;
     fits = λ copied e.
         let f = fits copied (sym (ap (λ (v : ReaderState). v.copy) same) ∙ e) in
@@ -118,60 +121,43 @@ module _ {P : Type 0} (plans : Plans P) where
   }
 
   -- its own move
-  own_move : (w : BoardView P) (r : ℕ) (loaded : Option ℕ) (change : Change P) → ReadsBy w r change → Fits w r loaded →
-      (later : Option ℕ) × Fits (changed w change) r later
-      × ((ms : List Move) → StoresWhatItLoaded plans.qsbr w.layout later ms → StoresWhatItLoaded plans.qsbr w.layout loaded (made_by plans r w (with_change w (Ok change)).world (with_change w (Ok change)).answer ++ ms))
-  own_move w r loaded change by fits = subst (λ (x : Change P).
-      (later : Option ℕ) × Fits (changed w x) r later
-      × ((ms : List Move) → StoresWhatItLoaded plans.qsbr w.layout later ms → StoresWhatItLoaded plans.qsbr w.layout loaded (made_by plans r w (with_change w (Ok x)).world (with_change w (Ok x)).answer ++ ms))) by.is (
-        Some w.grace.word,
-        (λ copied e.
-            let c = l.copies copied (sym (ap (λ (x : ReaderState). x.copy) new) ∙ e) in
-            (sym (ap (λ (n : ℕ). Some n) c.0), λ flavour. ap (λ (x : ReaderState). count_of w.layout x.word == 0) new ∙ c.1 flavour)),
-        (λ ms h. (
-          (λ opens.
-              let o = l.opens opens in
-              let f = fits o.0 (ap (λ (x : ReaderState). x.copy) old ∙ o.1) in
-              (o.0, f.0, ap (λ (x : ReaderState). x.word) new ∙ o.2 (λ flavour. sym (ap (λ (x : ReaderState). count_of w.layout x.word == 0) old) ∙ f.1 flavour))),
-          h,
-        )),
-      )
+  own_move : (w : BoardView P) (r : ℕ) (loaded : Option ℕ) (change : Change P) → ReadsBy w r change → Fits w r loaded → Goes w (changed w change) r loaded (made_by plans r w (with_change w (Ok change)).world (with_change w (Ok change)).answer)
+  own_move w r loaded change by fits = subst (λ (x : Change P). Goes w (changed w x) r loaded (made_by plans r w (with_change w (Ok x)).world (with_change w (Ok x)).answer)) by.is (record {
+    later = Some w.grace.word;
+    fits = λ copied e.
+        let c = by.loads_by.copies copied (sym (ap (λ (x : ReaderState). x.copy) new) ∙ e) in
+        (sym (ap (λ (n : ℕ). Some n) c.0), λ flavour. ap (λ (x : ReaderState). count_of w.layout x.word == 0) new ∙ c.1 flavour);
+    stores = λ ms h. (
+      (λ opens.
+          let o = by.loads_by.opens opens in
+          let f = fits o.0 (ap (λ (x : ReaderState). x.copy) old ∙ o.1) in
+          (o.0, f.0, ap (λ (x : ReaderState). x.word) new ∙ o.2 (λ flavour. sym (ap (λ (x : ReaderState). count_of w.layout x.word == 0) old) ∙ f.1 flavour))),
+      h,
+    );
+  })
     where
-      l : Loads plans.qsbr w r by.state by.step
-      l = by.loads_by
-
       old : reader_of w r ≡ by.state
       old = get_or_from_slice_get w.readers r by.state new_reader by.was
 
       new : get_or (slice_set w.readers r by.step.state) r new_reader ≡ by.step.state
       new = get_or-set_same w.readers r by.step.state new_reader (slice_get_within w.readers r by.state by.was)
 
-  goes_over : (w : BoardView P) (r : ℕ) (loaded : Option ℕ) (l : Line) (change : Change P) → ReadsOver w l change → Fits w r loaded → Goes w r loaded l (Ok change)
+  goes_over : (w : BoardView P) (r : ℕ) (loaded : Option ℕ) (l : Line) (change : Change P) → ReadsOver w l change → Fits w r loaded → Goes w (changed w change) r loaded (moves_by r w l (Ok change))
   goes_over w r loaded (Reader k verb) change by fits = this (eqb_tells k r)
     where
-      this : (((k == r) ≡ true) × (k ≡ r)) ⊎ (((k == r) ≡ false) × (k ≢ r)) → Goes w r loaded (Reader k verb) (Ok change)
-      this (inl same) =
-          let g = own_move w r loaded change (subst (λ (n : ℕ). ReadsBy w n change) same.1 by) fits in
-          record {
-            later = g.0;
-            fits = g.1;
-            stores = λ ms h. subst (λ (b : Bool). StoresWhatItLoaded plans.qsbr w.layout loaded (cond b (made_by plans r w (with_change w (Ok change)).world (with_change w (Ok change)).answer) [] ++ ms)) (sym same.0) (g.2 ms h);
-          }
-      this (inr other) = no_move w r loaded (Reader k verb) (Ok change) (cond-false (k == r) _ _ other.0)
+      this : (((k == r) ≡ true) × (k ≡ r)) ⊎ (((k == r) ≡ false) × (k ≢ r)) → Goes w (changed w change) r loaded (moves_by r w (Reader k verb) (Ok change))
+      this (inl same) = subst (Goes w (changed w change) r loaded) (sym (cond-true (k == r) _ _ same.0)) (own_move w r loaded change (subst (λ (n : ℕ). ReadsBy w n change) same.1 by) fits)
+      this (inr other) = no_move w r loaded (Ok change) _ (cond-false (k == r) _ _ other.0)
           (subst (λ (x : Change P). reader_of (changed w x) r ≡ reader_of w r) by.is (get_or-set_other w.readers k r by.step.state new_reader (λ e. other.1 (sym e)))) fits
-  goes_over w r loaded (Updater u v) change same fits = no_move w r loaded (Updater u v) (Ok change) refl (ap (λ (vs : List ReaderState). get_or vs r new_reader) same) fits
-  goes_over w r loaded (Worker k v) change same fits = no_move w r loaded (Worker k v) (Ok change) refl (ap (λ (vs : List ReaderState). get_or vs r new_reader) same) fits
+  goes_over w r loaded (Updater u v) change same fits = no_move w r loaded (Ok change) [] refl (ap (λ (vs : List ReaderState). get_or vs r new_reader) same) fits
+  goes_over w r loaded (Worker k v) change same fits = no_move w r loaded (Ok change) [] refl (ap (λ (vs : List ReaderState). get_or vs r new_reader) same) fits
 
-  goes_by : (w : BoardView P) (r : ℕ) (loaded : Option ℕ) (l : Line) (x : Result (Change P) Refusal) → Each plans w (ReadsOver w) l x → Fits w r loaded → Goes w r loaded l x
+  goes_by : (w : BoardView P) (r : ℕ) (loaded : Option ℕ) (l : Line) (x : Result (Change P) Refusal) → Each plans w (ReadsOver w) l x → Fits w r loaded → Goes w (with_change w x).world r loaded (moves_by r w l x)
   goes_by w r loaded l (Ok change) over fits = goes_over w r loaded l change over fits
-  goes_by w r loaded l (Err e) over fits = no_move w r loaded l (Err e) (by l) refl fits
+  goes_by w r loaded l (Err e) over fits = no_move w r loaded (Err e) (moves_by r w l (Err e)) (by l) refl fits
     where
-      none : (b : Bool) → cond b (let ms : List Move = [] in ms) [] ≡ []
-      none true = refl
-      none false = refl
-
       by : (l : Line) → moves_by r w l (Err e) ≡ []
-      by (Reader k verb) = none (k == r)
+      by (Reader k verb) = elim (k == r) as (λ b. cond b (let ms : List Move = [] in ms) [] ≡ []) [ true ↦ refl | false ↦ refl ]
       by _ = refl
 
   move_is : (r : ℕ) (w : BoardView P) (l : Line) → moves_by r w l (change_of plans w l) ≡ move_of plans r w l
@@ -192,3 +178,42 @@ module _ {P : Type 0} (plans : Plans P) where
   stored_from_fresh config seq lines r =
       all_stored (fresh_at config seq) r config.layout None lines refl
       (λ copied e. let none = ap (λ (v : ReaderState). v.copy) (get_replicate new_reader config.readers r) in let clash = sym none ∙ e in cc)
+
+-- ---- in the quiescent-state flavour words of both layouts lead to the same answers
+
+abbrev laid : Layout → BoardView QsbrPlan → BoardView QsbrPlan
+laid layout w = record w { layout = layout }
+
+module _ (layout : Layout) where
+  same_answer : (w : BoardView QsbrPlan) (x : Result (Change QsbrPlan) Refusal) → (with_change (laid layout w) x).answer ≡ (with_change w x).answer
+  same_answer w (Ok change) = refl
+  same_answer w (Err e) = refl
+
+  same_world : (w : BoardView QsbrPlan) (x : Result (Change QsbrPlan) Refusal) → (with_change (laid layout w) x).world ≡ laid layout (with_change w x).world
+  same_world w (Ok (Read r step)) = refl
+  same_world w _ = refl
+
+  -- a step of this flavour looks at no layout
+  same_change : (w : BoardView QsbrPlan) (line : Line) → change_of qsbr_plans (laid layout w) line ≡ change_of qsbr_plans w line
+  same_change w (Reader r verb) = by (slice_get w.readers r) verb
+    where
+      by : (v : Option ReaderState) (verb : ReaderVerb) → made (of_reader true (laid layout w) r verb v) ≡ made (of_reader true w r verb v)
+      by None verb = refl
+      by (Some v) reader.GoOn = refl
+      by (Some v) _ = refl
+  same_change w (Updater u verb) = refl
+  same_change w (Worker k verb) = refl
+
+  all_alike : (w : BoardView QsbrPlan) (lines : List Line) → answers_to (OfQsbr (laid layout w)) lines ≡ answers_to (OfQsbr w) lines
+  all_alike w [] = refl
+  all_alike w (line ∷ lines) =
+      let change = same_change w line in
+      let answer = ap (λ (x : Result (Change QsbrPlan) Refusal). (with_change (laid layout w) x).answer) change ∙ same_answer w (change_of qsbr_plans w line) in
+      let world = ap (λ (x : Result (Change QsbrPlan) Refusal). (with_change (laid layout w) x).world) change ∙ same_world w (change_of qsbr_plans w line) in
+      ap (λ (a : Result Answer Refusal). a ∷ answers_to (OfQsbr (outcome_of qsbr_plans (laid layout w) line).world) lines) answer
+      ∙ ap (λ (v : BoardView QsbrPlan). (outcome_of qsbr_plans w line).answer ∷ answers_to (OfQsbr v) lines) world
+      ∙ ap (λ (rest : List (Result Answer Refusal)). (outcome_of qsbr_plans w line).answer ∷ rest) (all_alike (outcome_of qsbr_plans w line).world lines)
+
+  pub alike_in : (config : Config) (seq : ℕ) (lines : List Line) (flavour : Flavour) → flavour ≡ Qsbr → answers_to (fresh_in flavour (laid_out layout config) seq) lines ≡ answers_to (fresh_in flavour config seq) lines
+  alike_in config seq lines Memb e = cc
+  alike_in config seq lines Qsbr e = all_alike (fresh_at config seq) lines

@@ -61,6 +61,12 @@ inside_worker core.Asks tickets h = h
 inside_worker _ tickets h = h
 
 module _ {P : Type 0} (plans : Plans P) (w : BoardView P) where
+  -- the same of who was inside before, and of who is inside then
+  lock_over : (me : Holder) (ask : ℕ) (held : Option Holder) {was was' is is' : Type 0} → (was' → was) → (is → is') → LockMoves plans w me ask was held is → LockMoves plans w me ask was' held is'
+  lock_over me ask held before then (inl stays) = inl (stays.0, λ h. then (stays.1 (before h)))
+  lock_over me ask held before then (inr (inl taken)) = inr (inl (taken.0, then taken.1))
+  lock_over me ask held before then (inr (inr freed)) = inr (inr freed)
+
   -- who held the lock, or has taken it
   module _ (me : Holder) (ask : ℕ) (was is : Type 0) (held : Option Holder) (moves : LockMoves plans w me ask was held is) where
     mine : (w.grace.holder ≡ Some me → was) → held ≡ Some me → is
@@ -161,12 +167,7 @@ module _ {P : Type 0} (plans : Plans P) (layout : Layout) (slots : ℕ) (laws : 
   owned_sync u x ask sync step at fits k = by at
     where
       moves : (was : Type 0) → (was → IsInside sync) → LockMoves plans w (holder.Updater u) ask was step.grace.holder (SyncsInside (sync_place plans ask step.core))
-      moves was has = by_lock fits.lock
-        where
-          by_lock : LockMoves plans w (holder.Updater u) ask (IsInside sync) step.grace.holder (IsInside step.core) → LockMoves plans w (holder.Updater u) ask was step.grace.holder (SyncsInside (sync_place plans ask step.core))
-          by_lock (inl stays) = inl (stays.0, λ h. inside_place plans ask step.core (stays.1 (has h)))
-          by_lock (inr (inl taken)) = inr (inl (taken.0, inside_place plans ask step.core taken.1))
-          by_lock (inr (inr freed)) = inr (inr freed)
+      moves was has = lock_over plans w (holder.Updater u) ask step.grace.holder has (inside_place plans ask step.core) fits.lock
 
       by : SyncsAt plans w u x ask sync → Owned (slice_set w.updaters u (record x { place = sync_place plans ask step.core })) w.workers w.queues step.grace.holder
       by (inl i) = steps plans w u x _ i.was ask step.grace.holder (moves (SyncsInside x.place) (λ h. absurd (not_inside i (λ n. n) h))) (λ h. absurd (not_retiring i (λ n. n) h)) k
@@ -175,13 +176,8 @@ module _ {P : Type 0} (plans : Plans P) (layout : Layout) (slots : ℕ) (laws : 
   owned_work : (n : ℕ) (x : WorkerState P) (sync : SyncCore P) (tickets : Tickets) (step : GraceStep P) → WorkedAt plans w n x (worker.Syncs sync tickets) → Fits plans w (holder.Worker n) (ask_for w x.ask sync) sync step →
       StaysOwned w (Work n (record { ask = ask_for w x.ask sync; core = synced_to step.core tickets }) step.grace (worker_act step.grace.seq (synced_to step.core tickets)) None step.answer)
   owned_work n x sync tickets step at fits k =
-      works plans w n x _ at.was (ask_for w x.ask sync) step.grace.holder (worker_act step.grace.seq (synced_to step.core tickets)) (by fits.lock) (worker_keeps step.grace.seq (synced_to step.core tickets)) k
-    where
-      by : LockMoves plans w (holder.Worker n) (ask_for w x.ask sync) (IsInside sync) step.grace.holder (IsInside step.core) →
-          LockMoves plans w (holder.Worker n) (ask_for w x.ask sync) (WorksInside x.core) step.grace.holder (WorksInside (synced_to {J = Unit} step.core tickets))
-      by (inl stays) = inl (stays.0, λ h. inside_worker step.core tickets (stays.1 (subst (λ (c : WorkerCore P Unit). WorksInside c) at.at h)))
-      by (inr (inl taken)) = inr (inl (taken.0, inside_worker step.core tickets taken.1))
-      by (inr (inr freed)) = inr (inr freed)
+      works plans w n x _ at.was (ask_for w x.ask sync) step.grace.holder (worker_act step.grace.seq (synced_to step.core tickets))
+      (lock_over plans w (holder.Worker n) (ask_for w x.ask sync) step.grace.holder (λ h. subst (λ (c : WorkerCore P Unit). WorksInside c) at.at h) (inside_worker step.core tickets) fits.lock) (worker_keeps step.grace.seq (synced_to step.core tickets)) k
 
   -- a worker's step that is none of a grace period
   owned_item : (n : ℕ) (x y : WorkerState P) (core : WorkerCore P Unit) (a : QueueAct) → WorkedAt plans w n x core → (WorksInside core → ⊥) → KeepsHolder a → IsOwned w → Owned w.updaters (slice_set w.workers n y) (acted_at w.queues n a) w.grace.holder

@@ -1,25 +1,22 @@
 -- The world's log is a run, and the world stands as the machine does after it: for every line, and every list of lines.
-use Rattle.world.proofs.Cited.{length-replicate, ◌≡◌, ℕ, true≢false, zero, suc, ◌+◌, ◌%◌, ◌^◌, ◌≤◌, nat_le, true, List, [], ◌∷◌, ◌++◌, length, get_or, replicate, slice_get, Option, Some, None, Result, Ok, Err, refl, sym, ap, ◌∙◌, subst, arith, and_parts, leb-true, Event, ObjectId, Refusal, State, start, after_all, IsRun, IsPlace, follows, none_some, allowed_append, after_append, Layout, Config, Line, Fresh, ReaderState, UpdaterState, UpdaterPlace, Idle, Publishes, Syncs, Change, Read, Begin, Publish, is_in, is_within_limits, new_reader, fresh_object, Plans, BoardView, idle, fresh_at, changed, no_object, word_of, ReaderKept, not_new, InQueue, queue_at, WorkerState, new_worker, Life, QueueState, empty_queue_state}
+use Rattle.world.proofs.Cited.{length-replicate, ◌≡◌, ℕ, true≢false, zero, suc, ◌+◌, ◌%◌, ◌^◌, ◌≤◌, nat_le, true, List, [], ◌∷◌, ◌++◌, length, get_or, replicate, slice_get, Option, Some, None, Result, Ok, Err, refl, sym, ap, ◌∙◌, subst, arith, and_parts, leb-true, Event, ObjectId, Refusal, State, start, after_all, IsRun, IsPlace, follows, none_some, allowed_append, after_append, Layout, Config, Line, Fresh, ReaderState, UpdaterState, UpdaterPlace, Idle, Publishes, Syncs, Change, Read, Begin, Publish, is_in, is_within_limits, new_reader, fresh_object, Plans, BoardView, idle, fresh_at, changed, no_object, word_of, ReaderKept, not_new, InQueue, queue_at, WorkerState, new_worker, Life, QueueState, empty_queue_state, SyncCore, new_core}
 use Rattle.rcu_model.specs.declared.event.Event.TheVariants as events
 use Rattle.world_state.specs.declared.updater.Publishing.TheVariants as publishing
 use Rattle.world.specs.Chains.{next_object}
-use Rattle.world.specs.Workers.{ask_for}
 use Rattle.world_state.specs.declared.updater.Holder.TheVariants as holder
 use Rattle.world.specs.Lines.{change_of, with_change, outcome_of, world_after}
 use Rattle.world.proofs.Rows.{ByPush, ByReplace, ByCut, ByPushed, ByReplaced, BySync, ByTurn, ByStart, ByPoll, ByHold, ByRetire, ByBarrier, ByNote, ByCheck, ByClear, ReaderRows, UpdaterRows, Each, Law, by_law, over_line}
 use Rattle.world.proofs.Fence.{Work, Rests, Pending, Holds, Laws}
-use Rattle.world.proofs.State.{Asker, Syncing, Polling, Working, place_work, started_work, worker_work, updater_at, worker_at, work_of, UpdaterKept, told_by, log_after, Kept, Owes}
+use Rattle.world.proofs.State.{Asker, Syncing, Polling, Working, place_work, started_work, worker_work, updater_at, worker_at, work_of, UpdaterKept, told_by, log_after, Kept, Owes, IsUnderWay}
 use Rattle.world.proofs.KeptReaders.{there as reader_there, OwesRead, owes_reads}
 use Rattle.world.proofs.KeptPublishing.{There, there, owes_push, owes_replace, owes_cut, owes_pushed, owes_replaced}
-use Rattle.world.proofs.Asking.{owes_ask, owes_sync}
-use Rattle.world.proofs.KeptWaiting.{OwesTurn, syncing, owes_start, owes_poll}
-use Rattle.world.proofs.Callbacks.{LifeKept, QueueKept, RetireKept, WorkAt, BarKept, Barring, Callbacks}
-use Rattle.world.proofs.Plain.{IsPlain, other_reads, PlainChange, OwesAll, plainly}
+use Rattle.world.proofs.Asking.{IsDue, owes_turn, owes_start, owes_poll}
+use Rattle.world.proofs.Callbacks.{LifeKept, QueueKept, RetireKept, WorkAt, BarKept, Barring, Callbacks, IsPlain, other_reads, PlainChange, OwesAll, plainly}
 use Rattle.world.proofs.Retirements.{owes_hold, owes_on}
 use Rattle.world.proofs.Barriers.{owes_barrier, owes_note, owes_check, owes_clear}
-use Rattle.world.proofs.WorkerAsks.{OwesTurn as WorkerTurn, owes_batch}
-use Rattle.world.proofs.WorkerSteps.{owes_take, owes_run, owes_count}
+use Rattle.world.proofs.WorkerSteps.{owes_batch, owes_take, owes_run, owes_count}
 use Rattle.world_state.specs.declared.object.Life.TheVariants as life
+use Rattle.call_rcu_worker.specs.declared.sync.SyncCore.TheVariants as core
 
 pub get_replicate : {X : Type 0} (x : X) (n i : ℕ) → get_or (replicate n x) i x ≡ x
 get_replicate x zero i = refl
@@ -42,31 +39,29 @@ module _ {P : Type 0} (plans : Plans P) (layout : Layout) (slots : ℕ) (laws : 
     reads r v was step row = plain (Read r step) (other_reads plans.qsbr w.layout w r v step row)
         (subst (λ (l : Layout). ReaderRows plans.qsbr l w r v (OwesRead plans layout slots laws w now k r)) (sym k.shape.laid) (owes_reads plans layout slots laws w now k r v (reader_there plans layout slots laws w now k r v was)) step row)
 
-    module _ (u : ℕ) (x : UpdaterState P) (t : Here u x) where
-      -- the work of an updater that is there
-      its_work : work_of w.updaters w.workers (Syncing u) ≡ place_work x.place
-      its_work = ap (λ (z : UpdaterState P). place_work z.place) t.is
+    -- a grace period that rests between two lines is due
+    under_way : (u ask : ℕ) (sync : SyncCore P) → IsUnderWay sync → IsDue plans layout slots laws w now k (holder.Updater u) ask sync
+    under_way u ask core.Asks h = absurd h
+    under_way u ask core.Done h = absurd h
+    under_way u ask _ h = h
 
+    module _ (u : ℕ) (x : UpdaterState P) (t : Here u x) where
       mine : (place : UpdaterPlace P) → x.place ≡ place → UpdaterKept w.heads w.objects (length w.updaters) u place
       mine place is = subst (UpdaterKept w.heads w.objects (length w.updaters) u) is t.mine
 
       rests : x.place ≡ Idle → IsPlain x.place
-      rests is = subst (λ (p : UpdaterPlace P). IsPlain p) (sym is) tt
+      rests is = subst (λ (p : UpdaterPlace P). IsPlain p) (sym is) (tt, tt)
 
       updates : UpdaterRows plans w u x (λ v change. OwesNow (Ok change))
-      updates _ _ (ByPush h head at is writes') = plain (Begin u (record x { place = Publishes (publishing.Push (next_object w)) }) (fresh_object h head)) (t.inside, tt, refl, refl) (owes_push plans layout slots laws w now k u x h head t (ap place_work at.at) is writes')
-      updates _ _ (ByReplace o y at is) = plain (Begin u (record x { place = Publishes (publishing.Replace o (next_object w)) }) (fresh_object y.chain y.link)) (t.inside, tt, refl, refl) (owes_replace plans layout slots laws w now k u x o y t (ap place_work at.at) is)
+      updates _ _ (ByPush h head at is writes') = plain (Begin u (record x { place = Publishes (publishing.Push (next_object w)) }) (fresh_object h head)) (t.inside, (tt, tt), refl, refl) (owes_push plans layout slots laws w now k u x h head t (ap place_work at.at) is writes')
+      updates _ _ (ByReplace o y at is) = plain (Begin u (record x { place = Publishes (publishing.Replace o (next_object w)) }) (fresh_object y.chain y.link)) (t.inside, (tt, tt), refl, refl) (owes_replace plans layout slots laws w now k u x o y t (ap place_work at.at) is)
       updates _ _ (ByCut o y at is) = plain (Publish u x (record { chain = y.chain; before = y.before; after = y.link; leaves = Some o; enters = None }) (events.Cut y.chain o)) (t.inside, rests at.at, tt) (owes_cut plans layout slots laws w now k u x o y t at.at is)
-      updates _ _ (ByPushed m y at is) = plain (Publish u (record x { place = Idle }) (record { chain = y.chain; before = None; after = y.link; leaves = None; enters = Some m }) (events.Push y.chain m)) (t.inside, tt, tt)
+      updates _ _ (ByPushed m y at is) = plain (Publish u (record x { place = Idle }) (record { chain = y.chain; before = None; after = y.link; leaves = None; enters = Some m }) (events.Push y.chain m)) (t.inside, (tt, tt), tt)
           (owes_pushed plans layout slots laws w now k u x m y t (ap place_work at.at) (mine (Publishes (publishing.Push m)) at.at) is)
-      updates _ _ (ByReplaced o m y at is) = plain (Publish u (record x { place = Idle }) (record { chain = y.chain; before = y.before; after = y.link; leaves = Some o; enters = Some m }) (events.Replace y.chain o m)) (t.inside, tt, tt)
+      updates _ _ (ByReplaced o m y at is) = plain (Publish u (record x { place = Idle }) (record { chain = y.chain; before = y.before; after = y.link; leaves = Some o; enters = Some m }) (events.Replace y.chain o m)) (t.inside, (tt, tt), tt)
           (owes_replaced plans layout slots laws w now k u x o m y t (ap place_work at.at) (mine (Publishes (publishing.Replace o m)) at.at) is)
-      updates _ _ (BySync step at is goes on) =
-          subst (OwesTurn plans layout slots laws w now k c u x (w.grace.asks + 1)) is
-          (owes_ask plans layout slots laws w now k (holder.Updater u) (w.grace.asks + 1) (OwesTurn plans layout slots laws w now k c u x (w.grace.asks + 1)) (syncing plans layout slots laws w now k c u x (w.grace.asks + 1) t) (its_work ∙ ap place_work at.at) refl) goes on
-      updates _ _ (ByTurn ask place step at is goes on) =
-          subst (OwesTurn plans layout slots laws w now k c u x ask) is
-          (owes_sync plans layout slots laws w now k (holder.Updater u) ask (OwesTurn plans layout slots laws w now k c u x ask) (syncing plans layout slots laws w now k c u x ask t) place (its_work ∙ ap place_work at.at) (mine (Syncs ask place) at.at)) goes on
+      updates _ _ (BySync step at is goes on) = owes_turn plans layout slots laws w now k c u x t (w.grace.asks + 1) new_core step (ap place_work at.at) refl is goes on
+      updates _ _ (ByTurn ask place step at is goes on) = owes_turn plans layout slots laws w now k c u x t ask place step (ap place_work at.at) (under_way u ask place (mine (Syncs ask place) at.at)) is goes on
       updates _ _ (ByStart cookie at is) = owes_start plans layout slots laws w now k c u x t cookie at.at is
       updates _ _ (ByPoll s at is up) = owes_poll plans layout slots laws w now k c u x t s at.at is up
       updates _ _ (ByHold o q at may is free) = owes_hold plans layout slots laws w now k c u x t o at.at may q is free
@@ -83,7 +78,7 @@ module _ {P : Type 0} (plans : Plans P) (layout : Layout) (slots : ℕ) (laws : 
       updates = λ u x was. updates u x (there plans layout slots laws w now k u x was);
       works = λ n x was. record {
         takes = λ q at is free some. owes_take plans layout slots laws w now k c n x was at.at q is some;
-        works = λ sync tickets step at is goes on. subst (WorkerTurn plans layout slots laws w now k c n x was sync tickets at.at (ask_for w x.ask sync)) is (owes_batch plans layout slots laws w now k c n x was sync tickets at.at) goes on;
+        works = λ sync tickets step at is goes on. owes_batch plans layout slots laws w now k c n x was sync tickets step at.at is goes on;
         runs = λ tickets first at is. owes_run plans layout slots laws w now k c n x was tickets at.at first is;
         counts = λ tickets ticket item at. owes_count plans layout slots laws w now k c n x was tickets ticket item at.at;
       };

@@ -1,36 +1,158 @@
--- A step that is made leaves another world: it tells an event, makes an object, or moves whoever made it.
-use Rattle.world.proofs.Cited.{◌≡◌, ◌≢◌, ◌+◌, ◌≤◌, ◌%◌, ◌^◌, ℕ, true≢false, cond, nat_lt, Bool, true, false, List, [], ◌∷◌, ◌++◌, length, get_or, slice_get, slice_set, Option, Some, None, Result, Ok, Err, refl, sym, ap, ◌∙◌, subst, arith, IfOk, IfSome, lt-ltb, get_or_from_slice_get, ObjectId, Refusal, State, start, after_all, Layout, FinishesAfter, each_turn, turn_count, cookie_for, Ticket, Item, SyncCore, Told, Tickets, WorkerCore, Telling, new_core, step_of, asked_with, told_of, tickets_from, rest_of, after_take, item_done, Change, Bar, Config, Answer, Quiet, Line, Reader, Updater, Worker, ReaderVerb, UpdaterVerb, WorkerVerb, ObjectState, QueueState, ReaderState, ReaderStep, Barrier, BarrierStep, Note, Check, GraceState, Holder, Publishing, RetireStep, Started, UpdaterPlace, Idle, Publishes, Syncs, Retires, Bars, UpdaterState, WorkerState, is_within_limits, fresh_object, new_worker, empty_queue_state, Plans, BoardView, changed, told, idle, fresh_at}
-use Rattle.rcu_model.specs.declared.event.Event.TheVariants as events
-use Rattle.gp_memb.specs.declared.plan.Turn.TheVariants as turns
+-- In each world that lines lead to, nothing is missing that a row looks up, and a step that is made leaves another world.
+use Rattle.world.proofs.Cited.{◌≡◌, ◌+◌, ◌<◌, ◌==◌, ℕ, not, Bool, true, false, List, [], ◌∷◌, length, get_or, slice_get, Some, None, Ok, Err, refl, sym, ap, ◌∙◌, subst, arith, cond-true, slice_get-get_or, get_or_from_slice_get, none-some, ObjectId, State, start, after_all, Layout, count_of, fresh, Action, Finished, after_loads, turn_at, Item, object_with, SyncCore, WorkerCore, turned, told_of, Line, Reader, Updater, Worker, UpdaterVerb, WorkerVerb, Fresh, Linked, QueueState, ReaderState, Holder, Publishing, UpdaterPlace, Publishes, Syncs, UpdaterState, WorkerState, new_worker, empty_queue_state, is_open_in, Plans, BoardView, idle, PlaceKept, no_object, within, synced, zero, ◌≢◌, ◌≤◌, ◌%◌, ◌^◌, true≢false, cond, nat_lt, ◌++◌, slice_set, Result, IfOk, lt-ltb, Refusal, FinishesAfter, each_turn, turn_count, Ticket, Tickets, new_core, rest_of, after_take, Change, Config, Answer, BarrierStep, Note, Check, RetireStep, Idle, Retires, Bars, is_within_limits, changed, told, fresh_at, suc, get_or-set_same, Event, length-append, slice_get_within, steps, answer_of, Read, went_on, after_snoc, entered_of-nests, eqb-false, left_of-nests}
 use Rattle.call_rcu_worker.specs.declared.sync.SyncCore.TheVariants as core
-use Rattle.call_rcu_worker.specs.declared.sync.Told.TheVariants as what
 use Rattle.call_rcu_worker.specs.declared.worker.WorkerCore.TheVariants as worker
-use Rattle.call_rcu_worker.specs.Worker.{synced as after_sync}
 use Rattle.world_state.specs.declared.line.UpdaterVerb.TheVariants as updater
 use Rattle.world_state.specs.declared.line.WorkerVerb.TheVariants as verb
 use Rattle.world_state.specs.declared.updater.Holder.TheVariants as holder
 use Rattle.world_state.specs.declared.updater.Publishing.TheVariants as publishing
-use Rattle.world_state.specs.declared.updater.RetireStep.TheVariants as due
-use Rattle.world.specs.declared.grace.Effect.{Effect}
-use Rattle.world.specs.declared.grace.GraceStep.{GraceStep}
-use Rattle.world.specs.Answers.{one, answer_to}
-use Rattle.world.specs.Chains.{linked_by, push_row, replace_row, cut_row, pushed_row, replaced_row, published}
-use Rattle.world.specs.Grace.{effect_of, is_waiting, planned, stepped, done_with, grace_row, sync_row, sync_place, start_row, poll_row}
-use Rattle.world.specs.Lines.{Outcome, reader_line, grace_change, synced, is_idle, updater_on, updater_line, worker_line, of_reader, of_updater, of_worker, row_of, with_change, outcome_of, world_after}
-use Rattle.world.specs.Queues.{queue_of, at_place, lock_row as queue_lock_row, retire_on, noted_at, after_note, barrier_on}
-use Rattle.world.specs.Row.{Test, first_failing, Row, read_step, stopped, passed, made}
-use Rattle.world.specs.Steps.{IsMade, IsStalled}
-use Rattle.world.specs.Tests.{exact, line_tests, StepsBy, IsTested}
-use Rattle.world.specs.Workers.{is_none_left, first_in, first_fresh, with_core, take_row, run_row, worker_on, work_change, ask_for, is_resting}
-use Rattle.world.proofs.Callbacks.{WorkAt}
-use Rattle.world.proofs.Fence.{Laws}
-use Rattle.world.proofs.Found.{ScansExactly, exact_row, is_decided}
+use Rattle.world.specs.Grace.{action_effect, lock_effect, plan_now, stepped, done_with, grace_row, is_waiting, sync_place, is_blocked}
+use Rattle.world.specs.Lines.{operation_test, synced as synced_row, is_idle, updater_on, updater_verb, updates_on, worker_verb, works_on, of_updater, of_worker, row_of, grace_change, with_change, outcome_of, world_after}
+use Rattle.world.specs.Queues.{queue_of, retire_on}
+use Rattle.world.specs.Row.{after, first_failing, Row, made}
+use Rattle.world.specs.Tests.{exact, StepsBy, IsTested}
+use Rattle.world.specs.Workers.{first_in, worker_on, worked, ask_for, is_resting, is_none_left, first_fresh, work_change}
+use Rattle.world.proofs.Asking.{is_present}
+use Rattle.world.proofs.Callbacks.{WorkAt, own_queue, its_queue}
+use Rattle.world.proofs.Fence.{Laws, Running}
+use Rattle.world.proofs.GraceRows.{unplanned, Begins, GoesOn, TurnRow, TakesTurn, effect, next, Asking, Blocking, Standing, Locking, Needing, Going, Freeing, Resting, Ending, turn_of}
+use Rattle.world.proofs.KeptReaders.{there as reader_there}
 use Rattle.world.proofs.Logged.{Logged, logged}
-use Rattle.world.proofs.Moves.{longer, told_more, same_updater, same_worker, ReadMoves, read_moves, running_moves, Goes, goes, place_moves, core_moves}
-use Rattle.world.proofs.Standing.{first_stalls}
-use Rattle.world.proofs.State.{Asker, Syncing, Working, core_work, place_work, worker_work, work_of}
+use Rattle.world.proofs.Rows.{WasAt, WorkedAt, Lack, NoNext, NoEntry, NoQueue, NoPushed, NoReplaced, NoBatch, NoneReady, NotRun, NotCounted, not_false, ReaderRows, UpdaterRows, WorkerRows, Sweep, sweep, Copies, Nests, Unnests, ByPush, ByReplace, BySync, ByTurn, ByHold, ByRetire, ByNote, ByCheck, by_option}
+use Rattle.world.proofs.State.{Asker, Syncing, Working, UpdaterKept, core_work, place_work, worker_work, work_of}
+use Rattle.gp_memb.specs.declared.plan.Turn.TheVariants as turns
+use Rattle.world_state.specs.declared.updater.RetireStep.TheVariants as due
+use Rattle.world.specs.declared.grace.GraceStep.{GraceStep}
+use Rattle.world.specs.Answers.{one}
+use Rattle.world.specs.Steps.{IsStalled, IsPrompt}
 use Rattle.world.proofs.WorkerSteps.{all_fresh, some_left}
-use Rattle.world.proofs.Tests.{Passes, not_false, Decides}
+
+-- the same turns, by layouts that differ at most in the quiescent-state flavour
+same_turns : (qsbr : Bool) (one other : Layout) (number word : ℕ) (action : Action) → (qsbr ≡ false → one ≡ other) → turn_at qsbr one number action word ≡ turn_at qsbr other number action word
+same_turns false one other number word action same = ap (λ l. turn_at false l number action word) (same refl)
+same_turns true one other number word Finished same = refl
+same_turns true one other number word _ same = refl
+
+module _ {P : Type 0} (plans : Plans P) (layout : Layout) (slots : ℕ) (laws : Laws plans layout slots) where
+  -- what a plan's scans go by
+  pub record ScansExactly : Type 0 where
+    pub layout_of : P → Layout
+    pub exact : (p : P) (word : ℕ) → plans.turn p word ≡ turn_at plans.qsbr (layout_of p) (laws.present p) (plans.action p) word
+    pub begins_layout : (seq word : ℕ) (p : P) → laws.begun seq word p → plans.qsbr ≡ false → layout_of p ≡ layout
+    pub keeps_layout : (p : P) (word : ℕ) → layout_of (plans.taken p word) ≡ layout_of p
+
+  module _ (w : BoardView P) (l : Logged plans layout slots laws w) where
+    abbrev now : State
+    now = after_all start w.log
+
+    object_there : (o : ObjectId) → o.0 < length w.objects → slice_get w.objects o.0 ≡ None → ⊥
+    object_there o inside none = none-some (get_or w.objects o.0 no_object) (sym none ∙ slice_get-get_or w.objects o.0 no_object inside)
+
+    queue_there : (q : ℕ) → q < length w.queues → slice_get w.queues q ≡ None → ⊥
+    queue_there q inside none = none-some (get_or w.queues q empty_queue_state) (sym none ∙ slice_get-get_or w.queues q empty_queue_state inside)
+
+    -- a reader that is to enter has no section, so its nesting count is not full
+    closed : (r : ℕ) (v : ReaderState) (copied : ℕ) → slice_get w.readers r ≡ Some v → v.copy ≡ Some copied → plans.qsbr ≡ false → (count_of w.layout v.word == 0) ≡ true
+    closed r v copied was has memb =
+        let t = reader_there plans layout slots laws w now l.kept r v was in
+        not_false (ap (λ b. is_open_in b w.layout v.word) (sym memb) ∙ ap (λ k. is_open_in plans.qsbr k v.word) l.kept.shape.laid ∙ (t.mine.copying copied has).0 memb)
+
+    place_now : (u : ℕ) (x : UpdaterState P) (what : Publishing) → WasAt plans w u x (Publishes what) → PlaceKept w.heads w.objects (length w.updaters) u what
+    place_now u x what at = subst (λ (p : UpdaterPlace P). UpdaterKept w.heads w.objects (length w.updaters) u p) (ap (λ (y : UpdaterState P). y.place) (get_or_from_slice_get w.updaters u x idle at.was) ∙ at.at) (l.kept.places_kept u)
+
+    -- a worker that pops has a ready item, and rests neither before it runs an item nor before it counts it
+    pub work_now : (k : ℕ) (x : WorkerState P) (core : WorkerCore P Unit) → WorkedAt plans w k x core → WorkAt (get_or w.queues k empty_queue_state) now.asked now.awaited now.asked_sections (record x { core = core })
+    work_now k x core at = subst (λ (c : WorkerCore P Unit). WorkAt (get_or w.queues k empty_queue_state) now.asked now.awaited now.asked_sections (record x { core = c })) at.at
+        (subst (λ (y : WorkerState P). WorkAt (get_or w.queues k empty_queue_state) now.asked now.awaited now.asked_sections y) (get_or_from_slice_get w.workers k x new_worker at.was) (l.callbacks.working k))
+
+    -- nothing is missing
+    pub nothing_lacks : Lack plans w → ⊥
+    nothing_lacks (NoNext r v o was from none) = object_there o (within w.objects o ((reader_there plans layout slots laws w now l.kept r v was).mine.holds o from).2) none
+    nothing_lacks (NoEntry r v copied e was has memb full) = let same : Ok (fresh w.layout (copied == 1)) ≡ Err e = sym (cond-true (count_of w.layout v.word == 0) _ _ (closed r v copied was has memb)) ∙ full in cc
+    nothing_lacks (NoQueue u none) = queue_there (queue_of w u) (own_queue u l.callbacks.sizes) none
+    nothing_lacks (NoPushed u x new at none) = object_there new (place_now u x (publishing.Push new) at).0.1 none
+    nothing_lacks (NoReplaced u x old new at none) = object_there old (within w.objects old (λ f. let linked = (place_now u x (publishing.Replace old new) at).2 in let e : Linked ≡ Fresh = sym linked ∙ f in cc)) none
+    nothing_lacks (NoBatch k x was none) = queue_there k (its_queue k x l.callbacks.sizes was) none
+    nothing_lacks (NoneReady k x tickets at none) = by mine.items.ready (work_now k x (worker.Pops tickets) at).1 (sym (ap first_in (slice_get-get_or w.queues k empty_queue_state (its_queue k x l.callbacks.sizes at.was))) ∙ none)
+      where
+        mine : QueueState
+        mine = get_or w.queues k empty_queue_state
+
+        by : (ready : List (Item Unit)) → tickets.left ≡ length ready → object_with (mine.items.gone + 1) ready ≡ None → ⊥
+        by [] all e = let some = (work_now k x (worker.Pops tickets) at).2 in omega (arith, all, some)
+        by (item ∷ ready) all e = let clash = sym e in cc
+    nothing_lacks (NotRun k x tickets ticket item at) = work_now k x (worker.Runs tickets ticket item) at
+    nothing_lacks (NotCounted k x tickets ticket at) = work_now k x (worker.Counts tickets ticket) at
+
+    -- ---- scans
+
+    module _ (scans : ScansExactly) where
+      turn_is : (p : P) → laws.present p ≡ w.grace.word → (plans.qsbr ≡ false → scans.layout_of p ≡ layout) → (word : ℕ) → plans.turn p word ≡ turn_at plans.qsbr w.layout w.grace.word (plans.action p) word
+      turn_is p shows laid word =
+          scans.exact p word
+          ∙ ap (λ n. turn_at plans.qsbr (scans.layout_of p) n (plans.action p) word) shows
+          ∙ same_turns plans.qsbr (scans.layout_of p) w.layout w.grace.word word (plans.action p) (λ memb. laid memb ∙ sym l.kept.shape.laid)
+
+      layout_after : (p : P) (loads : List ℕ) → scans.layout_of (after_loads plans.taken p loads) ≡ scans.layout_of p
+      layout_after p [] = refl
+      layout_after p (load ∷ loads) = layout_after (plans.taken p load) loads ∙ scans.keeps_layout p load
+
+      begun_now : laws.begun w.grace.seq w.grace.word (plan_now plans w)
+      begun_now = subst (laws.begun w.grace.seq w.grace.word) (ap (λ (k : Layout). plans.made k slots w.grace.seq w.grace.word) (sym l.kept.shape.laid) ∙ ap (λ (n : ℕ). plans.made w.layout n w.grace.seq w.grace.word) (sym l.kept.shape.sized)) (laws.all.made w.grace.seq w.grace.word)
+
+      -- whose grace period stands here takes the same step by exact plans
+      exact_grace : (y : Asker) (at : ℕ) (me : Holder) (ask : ℕ) (sync : SyncCore P) → work_of w.updaters w.workers y ≡ core_work at sync → grace_row plans w me ask sync ≡ grace_row (exact plans w) w me ask sync
+      exact_grace y at me ask (core.Waits c) is =
+          elim w.grace.holder as (λ held. done_with plans w ask (core.Waits c) (lock_effect w me held) ≡ done_with (exact plans w) w ask (core.Waits c) (lock_effect w me held)) [ None ↦ refl | Some other ↦ refl ]
+      exact_grace y at me ask (core.Starts c) is =
+          let q = plan_now plans w in
+          let e = action_effect w (plans.action q) in
+          ap (λ t. stepped e.grace ask (turned plans.action c q (plans.taken q e.loaded) t))
+          (turn_is q (laws.all.keeps.begins w.grace.seq w.grace.word q begun_now (is_present plans layout slots laws w now l.kept)) (scans.begins_layout w.grace.seq w.grace.word q begun_now) e.loaded)
+      exact_grace y at me ask (core.Runs c p) is =
+          let e = action_effect w (plans.action p) in
+          let run : Running plans layout slots laws w.grace.seq w.grace.word c p = l.kept.part.grace_kept.running y at c p is in
+          ap (λ z. stepped e.grace ask (told_of plans.action plans.turn plans.taken z e.loaded)) (unplanned c p e.plan)
+          ∙ ap (λ t. stepped e.grace ask (turned plans.action c p (plans.taken p e.loaded) t))
+          (turn_is p run.present (λ memb. ap scans.layout_of run.is ∙ layout_after run.plan (run.load ∷ run.loads) ∙ scans.begins_layout run.from run.word run.plan run.begun memb) e.loaded)
+          ∙ sym (ap (λ z. stepped e.grace ask (told_of plans.action (exact plans w).turn plans.taken z e.loaded)) (unplanned c p e.plan))
+      exact_grace y at me ask _ is = refl
+
+      exact_place : (u : ℕ) (x : UpdaterState P) → slice_get w.updaters u ≡ Some x → (place : UpdaterPlace P) → x.place ≡ place → updater_on plans w u x place ≡ updater_on (exact plans w) w u x place
+      exact_place u x there (Syncs ask sync) is =
+          ap (synced_row plans u x ask)
+          (exact_grace (Syncing u) ask (holder.Updater u) ask sync (ap (λ (y : UpdaterState P). place_work y.place) (get_or_from_slice_get w.updaters u x idle there) ∙ ap place_work is))
+      exact_place u x there _ is = refl
+
+      exact_update : (u : ℕ) (x : UpdaterState P) → slice_get w.updaters u ≡ Some x → (v : UpdaterVerb) → updater_verb plans w u x v ≡ updater_verb (exact plans w) w u x v
+      exact_update u x there updater.GoOn = exact_place u x there x.place refl
+      exact_update u x there _ = refl
+
+      exact_core : (k : ℕ) (x : WorkerState P) → slice_get w.workers k ≡ Some x → (place : WorkerCore P Unit) → x.core ≡ place → worker_on plans w k x place ≡ worker_on (exact plans w) w k x place
+      exact_core k x there (worker.Syncs sync tickets) is =
+          ap (worked k (ask_for w x.ask sync) tickets)
+          (exact_grace (Working k) x.ask (holder.Worker k) (ask_for w x.ask sync) sync (ap (λ (y : WorkerState P). worker_work y.ask y.core) (get_or_from_slice_get w.workers k x new_worker there) ∙ ap (worker_work x.ask) is))
+      exact_core k x there _ is = refl
+
+      exact_work : (k : ℕ) (x : WorkerState P) → slice_get w.workers k ≡ Some x → (v : WorkerVerb) → worker_verb plans w k x v ≡ worker_verb (exact plans w) w k x v
+      exact_work k x there verb.Take = refl
+      exact_work k x there verb.GoOn = exact_core k x there x.core refl
+
+      pub exact_row : (line : Line) → row_of plans w line ≡ row_of (exact plans w) w line
+      exact_row (Reader r v) = refl
+      exact_row (Updater u v) = by_option (λ x. of_updater plans w u v x ≡ of_updater (exact plans w) w u v x) (slice_get w.updaters u) (λ is. refl) (λ x is. ap (after (operation_test (updates_on v) (not (is_idle x.place)) ∷ [])) (exact_update u x is v))
+      exact_row (Worker k v) = by_option (λ x. of_worker plans w k v x ≡ of_worker (exact plans w) w k v x) (slice_get w.workers k) (λ is. refl) (λ x is. ap (after (operation_test (works_on v) (not (is_resting x.core)) ∷ [])) (exact_work k x is v))
+
+-- ---- a step that is made leaves another world: it tells an event, makes an object, or moves whoever made it. Where a test
+-- fails, the world stays.
+
+-- a list with more behind it is another one
+longer : {T : Type 0} (xs : List T) (y : T) (ys : List T) → xs ++ y ∷ ys ≢ xs
+longer xs y ys e = let n : length xs + suc (length ys) ≡ length xs = sym (length-append xs (y ∷ ys)) ∙ ap length e in omega (arith, n)
+
+-- an entry that is set where the list stays is the old one
+set_same : {T : Type 0} (xs : List T) (i : ℕ) (x y : T) → slice_get xs i ≡ Some x → slice_set xs i y ≡ xs → y ≡ x
+set_same {T} xs i x y there e = sym (get_or-set_same xs i y x (slice_get_within xs i x there)) ∙ ap (λ (zs : List T). get_or zs i x) e ∙ get_or_from_slice_get xs i x x there
 
 -- the next step of a barrier is another one
 abbrev due_in : {P : Type 0} → UpdaterPlace P → BarrierStep
@@ -48,242 +170,185 @@ after_checking q e = let n : q + 1 ≡ q = cc in omega (arith, n)
 abbrev begun : {P : Type 0} → Tickets → Bool → WorkerCore P Unit
 begun t some = cond some (worker.Syncs new_core t) worker.Idle
 
-begins : {P : Type 0} (t : Tickets) (some : Bool) → some ≡ true → (core : WorkerCore P Unit) → core ≡ worker.Idle → begun t some ≢ core
-begins t true is core rests e = cc
-begins t false is core rests e = absurd (true≢false (sym is))
-
-takes : {P : Type 0} (core : WorkerCore P Unit) → is_resting core ≡ true → (first : Ticket) (count : ℕ) → 1 ≤ count → after_take core first count ≢ core
-takes worker.Idle r first count some = begins (tickets_from first count) (nat_lt 0 count) (lt-ltb 0 count some) worker.Idle refl
-takes _ r first count some = absurd (true≢false (sym r))
+begins : {P : Type 0} (t : Tickets) (some : Bool) → some ≡ true → begun {P = P} t some ≢ worker.Idle
+begins t true is e = cc
+begins t false is e = absurd (true≢false (sym is))
 
 -- nor is one that has run an item still at it
-counts : {P : Type 0} (core : WorkerCore P Unit) (tickets : Tickets) (ticket : Ticket) (item : Item Unit) → core ≡ worker.Ran tickets ticket item → (more : Bool) → cond more (worker.Pops (rest_of tickets)) worker.Idle ≢ core
-counts core tickets ticket item is true e = cc
-counts core tickets ticket item is false e = cc
+counts : {P : Type 0} (tickets : Tickets) (ticket : Ticket) (item : Item Unit) (more : Bool) → cond more (let pops : WorkerCore P Unit = worker.Pops (rest_of tickets) in pops) worker.Idle ≢ worker.Ran tickets ticket item
+counts tickets ticket item true e = cc
+counts tickets ticket item false e = cc
+
+-- ---- grace periods
+
+module _ {P : Type 0} (plans : Plans P) (plan : P) (count : ℕ) (finishes : FinishesAfter plans.action plans.turn plans.taken each_turn plan count) where
+  steps_snoc : (p : P) (xs : List ℕ) (x : ℕ) → plans.turn (after_loads plans.taken p xs) x ≡ turns.Step → steps plans.action plans.turn plans.taken each_turn p (xs ++ x ∷ []) ≡ steps plans.action plans.turn plans.taken each_turn p xs + 1
+  steps_snoc p [] x e = rw e refl
+  steps_snoc p (y ∷ ys) x e = ap (λ n. went_on (plans.turn p y) + n) (steps_snoc (plans.taken p y) ys x e) ∙ omega arith
+
+  -- while a turn goes on and leaves the plan as it was, such turns are counted without end
+  without_end : (loads : List ℕ) (word : ℕ) → plans.turn (after_loads plans.taken plan loads) word ≡ turns.Step → plans.taken (after_loads plans.taken plan loads) word ≡ after_loads plans.taken plan loads →
+      (n : ℕ) → (more : List ℕ) × (after_loads plans.taken plan more ≡ after_loads plans.taken plan loads) × (n ≤ steps plans.action plans.turn plans.taken each_turn plan more)
+  without_end loads word goes same zero = (loads, refl, omega arith)
+  without_end loads word goes same (suc n) =
+      let r = without_end loads word goes same n in (
+        r.0 ++ word ∷ [],
+        after_snoc plans.taken plan r.0 word ∙ ap (λ p. plans.taken p word) r.1 ∙ same,
+        let low = r.2 in
+            let more = steps_snoc plan r.0 word (ap (λ p. plans.turn p word) r.1 ∙ goes) in omega (arith, low, more),
+      )
+
+  turn_moves : (loads : List ℕ) (word : ℕ) → plans.action (after_loads plans.taken plan loads) ≢ Finished → plans.turn (after_loads plans.taken plan loads) word ≡ turns.Step →
+      plans.taken (after_loads plans.taken plan loads) word ≢ after_loads plans.taken plan loads
+  turn_moves loads word unfinished goes same = let r = without_end loads word goes same count in unfinished (ap plans.action (sym r.1) ∙ (finishes r.0).1 r.2)
+
+-- a turn of a running grace period that goes on leaves another plan
+running_moves : {P : Type 0} (plans : Plans P) (layout : Layout) (slots : ℕ) (laws : Laws plans layout slots) →
+    ((seq word : ℕ) → FinishesAfter plans.action plans.turn plans.taken each_turn (plans.made layout slots seq word) (turn_count plans.qsbr slots)) →
+    (seq number c : ℕ) (p : P) → Running plans layout slots laws seq number c p → (word : ℕ) → plans.turn p word ≡ turns.Step → plans.taken p word ≢ p
+running_moves plans layout slots laws finishes seq number c p run word goes same =
+    turn_moves plans run.plan (turn_count plans.qsbr slots)
+    (subst (λ q. FinishesAfter plans.action plans.turn plans.taken each_turn q (turn_count plans.qsbr slots)) (sym run.made) (finishes run.from run.word))
+    (run.load ∷ run.loads) word (λ f. run.goes_on (ap plans.action run.is ∙ f)) (ap (λ q. plans.turn q word) (sym run.is) ∙ goes)
+    (ap (λ q. plans.taken q word) (sym run.is) ∙ same ∙ run.is)
+
+module _ {P : Type 0} (plans : Plans P) where
+  -- whoever waits stands at another place, unless its grace period was over
+  same_place : (ask : ℕ) (one sync : SyncCore P) → one ≢ core.Done → (one ≡ sync → sync ≡ core.Done) → Syncs ask one ≢ Syncs ask sync
+  same_place ask one sync more h e = let same : one ≡ sync = cc in more (same ∙ h same)
+
+  place_moves : (ask : ℕ) (one sync : SyncCore P) → (one ≡ sync → sync ≡ core.Done) → sync_place plans ask one ≢ Syncs ask sync
+  place_moves ask core.Done sync h = λ e. let no : Idle ≡ Syncs ask sync = e in cc
+  place_moves ask one sync h = same_place ask one sync (λ e. cc) h
+
+  abbrev batch : Tickets → SyncCore P → WorkerCore P Unit
+  batch t sync = worker.Syncs sync t
+
+  same_batch : (t : Tickets) (one sync : SyncCore P) → one ≢ core.Done → (one ≡ sync → sync ≡ core.Done) → batch t one ≢ batch t sync
+  same_batch t one sync more h e = let same : one ≡ sync = cc in more (same ∙ h same)
+
+  core_moves : (t : Tickets) (one sync : SyncCore P) → (one ≡ sync → sync ≡ core.Done) → synced one t ≢ batch t sync
+  core_moves t core.Done sync h = λ e. let no : worker.Pops t ≡ batch t sync = e in cc
+  core_moves t one sync h = same_batch t one sync (λ e. cc) h
+
+-- ---- the rows
 
 module _ {P : Type 0} (plans : Plans P) (layout : Layout) (slots : ℕ) (laws : Laws plans layout slots) (w : BoardView P) (l : Logged plans layout slots laws w)
     (finishes : (seq word : ℕ) → FinishesAfter plans.action plans.turn plans.taken each_turn (plans.made layout slots seq word) (turn_count plans.qsbr slots)) where
-  abbrev now : State
-  now = after_all start w.log
+  -- a change is made, and leaves another world
+  abbrev Moved : Change P → Type 0
+  Moved change = IsPrompt (answer_of change) × (changed w change ≢ w)
 
-  -- an effect leaves another world
-  abbrev Moves : Result (Change P) Refusal → Type 0
-  Moves (Ok change) = changed w change ≢ w
-  Moves (Err e) = Unit {0}
+  told_more : (v : BoardView P) (e : Event) (es : List Event) → v ≡ w → v.log ≡ w.log ++ e ∷ es → ⊥
+  told_more v e es same is = longer w.log e es (sym is ∙ ap (λ (x : BoardView P). x.log) same)
 
-  moves_read : (r : ℕ) (step : Result ReaderStep Refusal) → ReadMoves w r step → Moves (read_step r step)
-  moves_read r (Ok step) m = m
-  moves_read r (Err e) m = tt
-
-  -- ---- steps of grace periods
-
-  -- whose grace period stands here takes turns that leave another plan
-  turns_move : (y : Asker) (at : ℕ) (sync : SyncCore P) → work_of w.updaters w.workers y ≡ core_work at sync → (c : ℕ) (p : P) (word : ℕ) → sync ≡ core.Runs c p → plans.turn p word ≡ turns.Step → plans.taken p word ≢ p
-  turns_move y at sync is c p word runs = running_moves plans layout slots laws finishes w.grace.seq w.grace.word c p (l.kept.part.grace_kept.running y at c p (is ∙ ap (core_work at) runs)) word
-
-  moves_sync : (change : GraceStep P → Change P) (sync : SyncCore P) → ((step : GraceStep P) → (changed w (change step)).log ≡ w.log ++ told step.answer) →
-      ((step : GraceStep P) → (step.core ≡ sync → sync ≡ core.Done) → changed w (change step) ≢ w) → (me : Holder) (ask : ℕ) → Goes sync (grace_row plans w me ask sync) →
-      Passes (sync_row change (grace_row plans w me ask sync)).tests → Moves (sync_row change (grace_row plans w me ask sync)).effect
-  moves_sync change sync logs moves me ask = by (effect_of plans w me ask (step_of plans.action sync))
+  moves_read : (r : ℕ) (v : ReaderState) → slice_get w.readers r ≡ Some v → ReaderRows plans.qsbr w.layout w r v (λ step. Moved (Read r step))
+  moves_read r v was = by
     where
-      of_told : (told : Told) (c : SyncCore P) (grace : GraceState) → Goes sync (Ok (record { core = c; grace = grace; answer = answer_to ask told })) → is_waiting (answer_to ask told) ≡ false →
-          Moves (Ok (change (record { core = c; grace = grace; answer = answer_to ask told })))
-      of_told what.Quiet c grace m e = let step : GraceStep P = record { core = c; grace = grace; answer = Quiet } in moves step (m refl)
-      of_told what.Asked c grace m e = let step : GraceStep P = record { core = c; grace = grace; answer = one (events.Ask ask) } in λ same. told_more w (changed w (change step)) (events.Ask ask) [] same (logs step)
-      of_told what.Answered c grace m e = let step : GraceStep P = record { core = c; grace = grace; answer = one (events.Answer ask) } in λ same. told_more w (changed w (change step)) (events.Answer ask) [] same (logs step)
-      of_told what.Waiting c grace m e = absurd (true≢false e)
+      stays : (x : ReaderState) → slice_set w.readers r x ≡ w.readers → x ≡ v
+      stays x = set_same w.readers r v x was
 
-      by_told : (e : Effect P) (t : Result (Telling P) Refusal) → Goes sync (stepped e.grace ask t) → Passes (sync_row change (stepped e.grace ask t)).tests → Moves (sync_row change (stepped e.grace ask t)).effect
-      by_told e (Ok t) m p = of_told t.told t.core e.grace m p.1.0
-      by_told e (Err f) m p = tt
+      by : ReaderRows plans.qsbr w.layout w r v (λ step. Moved (Read r step))
+      by _ (Copies none idle) = (tt, λ same. let e : Some w.grace.word ≡ None = ap (λ (x : ReaderState). x.copy) (stays _ (ap (λ (z : BoardView P). z.readers) same)) ∙ none in cc)
+      by _ (Nests word none flavour more is) = (
+        tt,
+        λ same.
+            let e = ap (λ (x : ReaderState). count_of w.layout x.word) (stays _ (ap (λ (z : BoardView P). z.readers) same)) in
+            omega (arith, e, (entered_of-nests w.layout v.word false word (eqb-false (count_of w.layout v.word) 0 more) is).count),
+      )
+      by _ (Unnests word none flavour is more) = (
+        tt,
+        λ same.
+            let e = ap (λ (x : ReaderState). count_of w.layout x.word) (stays _ (ap (λ (z : BoardView P). z.readers) same)) in
+            omega (arith, e, (left_of-nests w.layout v.word word is).count),
+      )
+      by _ _ = (tt, λ same. told_more _ _ _ same refl)
 
-      by : (e : Option (Effect P)) → Goes sync (done_with plans w ask sync e) → Passes (sync_row change (done_with plans w ask sync e)).tests → Moves (sync_row change (done_with plans w ask sync e)).effect
-      by None m p = absurd (true≢false p.0)
-      by (Some e) m p = by_told e (told_of plans.action plans.turn plans.taken (planned sync e.plan) e.loaded) m p
+  -- a plan that runs leaves another one behind its turn
+  going : (y : Asker) (at : ℕ) (from : SyncCore P) (c : ℕ) (p : P) → TakesTurn plans w from c p → work_of w.updaters w.workers y ≡ core_work at from → plans.turn p (effect plans w p).loaded ≡ turns.Step → core.Runs c (next plans w p) ≡ from → from ≡ core.Done
+  going y at _ _ _ (Begins c) is goes e = absurd (let no : core.Runs c (next plans w (plan_now plans w)) ≡ core.Starts c = e in cc)
+  going y at _ _ _ (GoesOn c p) is goes e = let same : next plans w p ≡ p = cc in absurd (running_moves plans layout slots laws finishes w.grace.seq w.grace.word c p (l.kept.part.grace_kept.running y at c p is) (effect plans w p).loaded goes same)
 
-  -- ---- updaters
+  -- a step of a grace period tells an event, or leaves another core
+  moves_turn : (change : GraceStep P → Change P) → ((step : GraceStep P) → (changed w (change step)).log ≡ w.log ++ told step.answer) → (y : Asker) (at : ℕ) (me : Holder) (ask : ℕ) (sync : SyncCore P) →
+      work_of w.updaters w.workers y ≡ core_work at sync → ((step : GraceStep P) → (step.core ≡ sync → sync ≡ core.Done) → changed w (change step) ≢ w) →
+      (step : GraceStep P) → TurnRow plans w me ask sync (Ok step) → is_blocked step.answer ≡ false → is_waiting step.answer ≡ false → IsPrompt step.answer × (changed w (change step) ≢ w)
+  moves_turn change logs y at me ask _ is moves _ (Blocking c other held) goes on = absurd (true≢false goes)
+  moves_turn change logs y at me ask _ is moves _ (Standing from c p takes) goes on = absurd (true≢false on)
+  moves_turn change logs y at me ask _ is moves _ (Locking c free) goes on = (tt, moves _ (λ e. let no : core.Checks c ≡ core.Waits c = e in cc))
+  moves_turn change logs y at me ask _ is moves _ (Needing c low) goes on = (tt, moves _ (λ e. let no : core.Starts c ≡ core.Checks c = e in cc))
+  moves_turn change logs y at me ask _ is moves _ (Going from c p takes turn more) goes on = (tt, moves _ (going y at from c p takes is turn))
+  moves_turn change logs y at me ask _ is moves _ Freeing goes on = (tt, moves _ (λ e. let no : core.Done ≡ core.Frees = e in cc))
+  moves_turn change logs y at me ask _ is moves _ Resting goes on = (tt, moves _ (λ _. refl))
+  moves_turn change logs y at me ask _ is moves _ _ goes on = (tt, λ same. told_more _ _ _ same (logs _))
 
-  module _ (u : ℕ) (x : UpdaterState P) (there : slice_get w.updaters u ≡ Some x) where
+  module _ (u : ℕ) (x : UpdaterState P) (was : slice_get w.updaters u ≡ Some x) where
     -- where the world stays, the updater is where it was
-    place_stays : (y : UpdaterState P) (v : BoardView P) → v ≡ w → v.updaters ≡ slice_set w.updaters u y → y.place ≡ x.place
-    place_stays y v same is = ap (λ (z : UpdaterState P). z.place) (same_updater w u x y there v same is)
+    stays : (v : BoardView P) (y : UpdaterState P) → v ≡ w → v.updaters ≡ slice_set w.updaters u y → y.place ≡ x.place
+    stays v y same is = ap (λ (z : UpdaterState P). z.place) (set_same w.updaters u x y was (sym is ∙ ap (λ (v : BoardView P). v.updaters) same))
 
-    moves_push : (c : ℕ) (head : Option (Option ObjectId)) → Moves (push_row w u x c head).effect
-    moves_push c None = tt
-    moves_push c (Some head) = λ same. longer w.objects (fresh_object c head) [] (ap (λ (v : BoardView P). v.objects) same)
-
-    moves_replace : (o : ObjectId) (y : Option ObjectState) → Moves (replace_row w u x o y).effect
-    moves_replace o None = tt
-    moves_replace o (Some y) = λ same. longer w.objects (fresh_object y.chain y.link) [] (ap (λ (v : BoardView P). v.objects) same)
-
-    moves_cut : (o : ObjectId) (y : Option ObjectState) → Moves (cut_row u x o y).effect
-    moves_cut o None = tt
-    moves_cut o (Some y) = λ same. told_more w _ (events.Cut y.chain o) [] same refl
-
-    moves_lock : (o : ObjectId) → is_idle x.place ≡ true → (q : Option QueueState) → Moves (queue_lock_row w u x o q).effect
-    moves_lock o free None = tt
-    moves_lock o free (Some q) = λ same. let e : Retires o due.Mark ≡ x.place = place_stays (at_place x (Retires o due.Mark)) _ same refl in true≢false (sym free ∙ sym (ap is_idle e))
+    moves_retire : (o : ObjectId) (step : RetireStep) → x.place ≡ Retires o step → Moved (retire_on w u x o step)
+    moves_retire o due.Mark is = (tt, λ same. told_more _ _ _ same refl)
+    moves_retire o due.Count is = (tt, λ same. let e : Retires o due.Push ≡ Retires o due.Count = stays _ _ same refl ∙ is in cc)
+    moves_retire o due.Push is = (tt, λ same. told_more _ _ _ same refl)
+    moves_retire o due.Free is = (tt, λ same. let e : Idle ≡ Retires o due.Free = stays _ _ same refl ∙ is in cc)
 
     -- the first step of `sync` tells its ask
-    moves_ask : (cookie : Result ℕ Refusal) → Moves (synced plans u x (w.grace.asks + 1) (stepped (record w.grace { asks = w.grace.asks + 1 }) (w.grace.asks + 1) (asked_with {P = P} cookie))).effect
-    moves_ask (Ok c) = λ same. told_more w _ (events.Ask (w.grace.asks + 1)) [] same refl
-    moves_ask (Err e) = tt
+    moves_ask : (ask : ℕ) (step : GraceStep P) → TurnRow plans w (holder.Updater u) ask core.Asks (Ok step) → Moved (grace_change plans u x ask step)
+    moves_ask ask _ (Asking c is) = (tt, λ same. told_more _ _ _ same refl)
+    moves_ask ask _ (Standing _ c p takes) = elim takes [ ]
+    moves_ask ask _ (Ending _ c p takes done) = elim takes [ ]
+    moves_ask ask _ (Going _ c p takes turn more) = elim takes [ ]
 
-    moves_start : (cookie : Result ℕ Refusal) → Moves (start_row w u x cookie).effect
-    moves_start (Ok c) = λ same. told_more w _ (events.Ask (w.grace.asks + 1)) [] same refl
-    moves_start (Err e) = tt
+    moves_update : UpdaterRows plans w u x (λ v. Moved)
+    moves_update _ _ (ByPush c head at is mine) = (tt, λ same. longer w.objects _ [] (ap (λ (v : BoardView P). v.objects) same))
+    moves_update _ _ (ByReplace o y at is) = (tt, λ same. longer w.objects _ [] (ap (λ (v : BoardView P). v.objects) same))
+    moves_update _ _ (BySync step at is goes on) = moves_ask (w.grace.asks + 1) step (turn_of plans w (holder.Updater u) (w.grace.asks + 1) core.Asks step is)
+    moves_update _ _ (ByTurn ask sync step at is goes on) = moves_turn (grace_change plans u x ask) (λ step. refl) (Syncing u) ask (holder.Updater u) ask sync (ap (λ (y : UpdaterState P). place_work y.place) (get_or_from_slice_get w.updaters u x idle was) ∙ ap place_work at.at)
+        (λ step h same. place_moves plans ask step.core sync h (stays _ _ same refl ∙ at.at)) step (turn_of plans w (holder.Updater u) ask sync step is) goes on
+    moves_update _ _ (ByHold o q at may is free) = (tt, λ same. let e : Retires o due.Mark ≡ Idle = stays _ _ same refl ∙ at.at in cc)
+    moves_update _ _ (ByRetire o step at) = moves_retire o step at.at
+    moves_update _ _ (ByNote b q at is) = (tt, λ same. after_noting q (nat_lt (q + 1) (length w.queues)) (ap due_in (stays _ _ same refl ∙ at.at) ∙ is))
+    moves_update _ _ (ByCheck b q at is up more) = (tt, λ same. after_checking q (ap due_in (stays _ _ same refl ∙ at.at) ∙ is))
+    moves_update _ _ _ = (tt, λ same. told_more _ _ _ same refl)
 
-    moves_poll : (s : Option Started) → Moves (poll_row w u x s).effect
-    moves_poll None = tt
-    moves_poll (Some s) = λ same. told_more w _ (events.Answer s.ask) [] same refl
-
-    moves_published : (what : Publishing) → Moves (published w u x what).effect
-    moves_published (publishing.Push new) = by (slice_get w.objects new.0)
-      where
-        by : (y : Option ObjectState) → Moves (pushed_row u (record x { place = Idle }) new y).effect
-        by None = tt
-        by (Some y) = λ same. told_more w _ (events.Push y.chain new) [] same refl
-    moves_published (publishing.Replace old new) = by (slice_get w.objects old.0)
-      where
-        by : (y : Option ObjectState) → Moves (replaced_row u (record x { place = Idle }) old new y).effect
-        by None = tt
-        by (Some y) = λ same. told_more w _ (events.Replace y.chain old new) [] same refl
-
-    moves_retire : (o : ObjectId) (step : RetireStep) → x.place ≡ Retires o step → changed w (retire_on w u x o step) ≢ w
-    moves_retire o due.Mark is = λ same. told_more w _ (events.Retire o) [] same refl
-    moves_retire o due.Count is = λ same. let e : Retires o due.Push ≡ Retires o due.Count = place_stays (at_place x (Retires o due.Push)) _ same refl ∙ is in cc
-    moves_retire o due.Push is = λ same. told_more w _ (events.Queue o (queue_of w u)) [] same refl
-    moves_retire o due.Free is = λ same. let e : Idle ≡ Retires o due.Free = place_stays (at_place x Idle) _ same refl ∙ is in cc
-
-    moves_barrier : (b : Barrier) → x.place ≡ Bars b → (step : BarrierStep) → b.due ≡ step → Moves (barrier_on w u x b step).effect
-    moves_barrier b is (Note q) at = λ same.
-        after_noting q (nat_lt (q + 1) (length w.queues))
-        (ap due_in (place_stays (at_place x (Bars (record b { counts = noted_at w b.counts q; due = after_note w q }))) _ same refl ∙ is) ∙ at)
-    moves_barrier b is (Check q) at = by (nat_lt (q + 1) (length w.queues))
-      where
-        by : (more : Bool) → changed w (cond more (Bar u (at_place x (Bars (record b { due = Check (q + 1) }))) w.barriers Quiet) (Bar u (at_place x Idle) w.barriers (one (events.Clear b.number)))) ≢ w
-        by true = λ same. after_checking q (ap due_in (place_stays (at_place x (Bars (record b { due = Check (q + 1) }))) _ same refl ∙ is) ∙ at)
-        by false = λ same. told_more w _ (events.Clear b.number) [] same refl
-
-    moves_on : (place : UpdaterPlace P) → x.place ≡ place → Passes (updater_on plans w u x place).tests → Moves (updater_on plans w u x place).effect
-    moves_on Idle is p = tt
-    moves_on (Publishes what) is p = moves_published what
-    moves_on (Syncs ask sync) is p =
-        moves_sync (grace_change plans u x ask) sync (λ step. refl)
-        (λ step h same. place_moves plans ask step.core sync h (place_stays (record x { place = sync_place plans ask step.core }) _ same refl ∙ is))
-        (holder.Updater u) ask
-        (goes plans w (holder.Updater u) ask sync (turns_move (Syncing u) ask sync (ap (λ (y : UpdaterState P). place_work y.place) (get_or_from_slice_get w.updaters u x idle there) ∙ ap place_work is)))
-        p
-    moves_on (Retires o step) is p = moves_retire o step is
-    moves_on (Bars b) is p = moves_barrier b is b.due refl
-
-    moves_update : (v : UpdaterVerb) → Passes (updater_line plans w u x v).tests → Moves (updater_line plans w u x v).effect
-    moves_update (updater.Push c) p = moves_push c (slice_get w.heads c)
-    moves_update (updater.Replace o) p = moves_replace o (linked_by w u (slice_get w.objects o.0))
-    moves_update (updater.Cut o) p = moves_cut o (linked_by w u (slice_get w.objects o.0))
-    moves_update (updater.Retire o) p = moves_lock o (not_false p.0) (slice_get w.queues (queue_of w u))
-    moves_update updater.Sync p = moves_ask (cookie_for w.grace.seq)
-    moves_update updater.Start p = moves_start (cookie_for w.grace.seq)
-    moves_update updater.Poll p = moves_poll x.started
-    moves_update updater.Barrier p = λ same. told_more w _ (events.Bar (w.barriers + 1)) [] same refl
-    moves_update updater.GoOn p = moves_on x.place refl p.1
-
-  -- ---- workers
-
-  module _ (k : ℕ) (x : WorkerState P) (there : slice_get w.workers k ≡ Some x) where
-    core_stays : (y : WorkerState P) (v : BoardView P) → v ≡ w → v.workers ≡ slice_set w.workers k y → y.core ≡ x.core
-    core_stays y v same is = ap (λ (z : WorkerState P). z.core) (same_worker w k x y there v same is)
-
-    abbrev mine : QueueState
-    mine = get_or w.queues k empty_queue_state
-
-    abbrev Kept : WorkerState P → Type 0
-    Kept y = WorkAt mine now.asked now.awaited now.asked_sections y
-
-    rests_empty : (core : WorkerCore P Unit) → is_resting core ≡ true → Kept (record x { core = core }) → (mine.items.ready ≡ []) × (mine.items.waiting ≡ [])
-    rests_empty worker.Idle r h = (h.0, h.1)
-    rests_empty _ r h = absurd (true≢false (sym r))
-
-    moves_take : is_resting x.core ≡ true → (q : Option QueueState) → slice_get w.queues k ≡ q → Passes (take_row w k x q).tests → Moves (take_row w k x q).effect
-    moves_take rests None is p = tt
-    moves_take rests (Some q) is p = λ same.
-        takes x.core rests (first_fresh q.items) (length q.items.fresh) (some_left q.items.fresh (ap is_none_left (sym (all_fresh q.items none.0 none.1)) ∙ p.1.0))
-        (core_stays (with_core x (after_take x.core (first_fresh q.items) (length q.items.fresh))) _ same refl)
-      where
-        none : (q.items.ready ≡ []) × (q.items.waiting ≡ [])
-        none =
-            subst (λ (z : QueueState). (z.items.ready ≡ []) × (z.items.waiting ≡ [])) (get_or_from_slice_get w.queues k q empty_queue_state is)
-            (rests_empty x.core rests (subst (λ (y : WorkerState P). Kept y) (get_or_from_slice_get w.workers k x new_worker there) (l.callbacks.working k)))
-
-    moves_run : (tickets : Tickets) (first : Option (Ticket × ObjectId)) → Moves (run_row w k x tickets first).effect
-    moves_run tickets None = tt
-    moves_run tickets (Some first) = λ same. told_more w _ (events.Run first.1) [] same refl
-
-    moves_core : (place : WorkerCore P Unit) → x.core ≡ place → Passes (worker_on plans w k x place).tests → Moves (worker_on plans w k x place).effect
-    moves_core (worker.Syncs sync tickets) is p =
-        moves_sync (work_change k (ask_for w x.ask sync) tickets) sync (λ step. refl)
-        (λ step h same. core_moves plans tickets step.core sync h (core_stays (record { ask = ask_for w x.ask sync; core = after_sync step.core tickets }) _ same refl ∙ is))
-        (holder.Worker k) (ask_for w x.ask sync)
-        (goes plans w (holder.Worker k) (ask_for w x.ask sync) sync
-        (turns_move (Working k) x.ask sync (ap (λ (y : WorkerState P). worker_work y.ask y.core) (get_or_from_slice_get w.workers k x new_worker there) ∙ ap (worker_work x.ask) is)))
-        p
-    moves_core (worker.Pops tickets) is p = moves_run tickets (first_in (slice_get w.queues k))
-    moves_core (worker.Ran tickets ticket item) is p = λ same.
-        counts x.core tickets ticket item is (nat_lt 1 tickets.left) (core_stays (with_core x (item_done (worker.Counts tickets ticket))) _ same refl)
-    moves_core _ is p = tt
-
-    moves_work : (v : WorkerVerb) → Passes (worker_line plans w k x v).tests → Moves (worker_line plans w k x v).effect
-    moves_work verb.Take p = moves_take (not_false p.0) (slice_get w.queues k) refl p.1
-    moves_work verb.GoOn p = moves_core x.core refl p.1
-
-  -- ---- all lines
-
-  of_readers : (r : ℕ) (v : ReaderVerb) (x : Option ReaderState) → slice_get w.readers r ≡ x → Passes (of_reader {P = P} plans.qsbr w r v x).tests → Moves (of_reader plans.qsbr w r v x).effect
-  of_readers r v None is p = tt
-  of_readers r v (Some x) is p = moves_read r (reader_line plans.qsbr w r x v).effect (read_moves w r x is plans.qsbr v p)
-
-  of_updaters : (u : ℕ) (v : UpdaterVerb) (x : Option (UpdaterState P)) → slice_get w.updaters u ≡ x → Passes (of_updater plans w u v x).tests → Moves (of_updater plans w u v x).effect
-  of_updaters u v None is p = tt
-  of_updaters u v (Some x) is p = moves_update u x is v p
-
-  of_workers : (k : ℕ) (v : WorkerVerb) (x : Option (WorkerState P)) → slice_get w.workers k ≡ x → Passes (of_worker plans w k v x).tests → Moves (of_worker plans w k v x).effect
-  of_workers k v None is p = tt
-  of_workers k v (Some x) is p = moves_work k x is v p
-
-  moves : (line : Line) → Passes (row_of plans w line).tests → Moves (row_of plans w line).effect
-  moves (Reader r v) p = of_readers r v (slice_get w.readers r) refl p
-  moves (Updater u v) p = of_updaters u v (slice_get w.updaters u) refl p
-  moves (Worker k v) p = of_workers k v (slice_get w.workers k) refl p
-
-  -- where no test fails, all pass, and the effect is what comes of the row
-  all_pass : (tests : List Test) → first_failing tests ≡ None → Passes tests
-  all_pass [] e = tt
-  all_pass (t ∷ ts) e = by t.fails refl e (λ f. all_pass ts f)
+  moves_work : (k : ℕ) (x : WorkerState P) → slice_get w.workers k ≡ Some x → WorkerRows plans w k x (λ v. Moved)
+  moves_work k x was = record {
+    takes = λ q at is free some.
+        let none = rw (get_or_from_slice_get w.queues k q empty_queue_state is) at (work_now plans layout slots laws w l k x worker.Idle at) in
+        let left = some_left q.items.fresh (ap is_none_left (sym (all_fresh q.items none.0 none.1)) ∙ some) in
+        (tt, λ same. begins _ _ (lt-ltb 0 (length q.items.fresh) left) (subst (λ (c : WorkerCore P Unit). after_take c (first_fresh q.items) (length q.items.fresh) ≡ c) at.at (stays _ _ same refl)));
+    works = λ sync tickets step at is goes on. moves_turn (work_change k (ask_for w x.ask sync) tickets) (λ step. refl) (Working k) x.ask (holder.Worker k) (ask_for w x.ask sync) sync
+        (ap (λ (y : WorkerState P). worker_work y.ask y.core) (get_or_from_slice_get w.workers k x new_worker was) ∙ ap (worker_work x.ask) at.at)
+        (λ step h same. core_moves plans tickets step.core sync h (stays _ _ same refl ∙ at.at)) step (turn_of plans w (holder.Worker k) (ask_for w x.ask sync) sync step is) goes on;
+    runs = λ tickets first at is. (tt, λ same. told_more _ _ _ same refl);
+    counts = λ tickets ticket item at. (tt, λ same. counts tickets ticket item (nat_lt 1 tickets.left) (stays _ _ same refl ∙ at.at));
+  }
     where
-      by : (b : Bool) → t.fails ≡ b → cond b (Some t.answer) (first_failing ts) ≡ None → (first_failing ts ≡ None → Passes ts) → (t.fails ≡ false) × Passes ts
-      by true is f rest = absurd (let no : Some t.answer ≡ None = f in cc)
-      by false is f rest = (is, rest f)
+      stays : (v : BoardView P) (y : WorkerState P) → v ≡ w → v.workers ≡ slice_set w.workers k y → y.core ≡ x.core
+      stays v y same is = ap (λ (z : WorkerState P). z.core) (set_same w.workers k x y was (sym is ∙ ap (λ (v : BoardView P). v.workers) same))
 
-  passed_through : (tests : List Test) (effect : Result (Change P) Refusal) → Passes tests → passed tests effect ≡ effect
-  passed_through [] effect p = refl
-  passed_through (t ∷ ts) effect p = ap (λ (b : Bool). cond b (stopped t.answer) (passed ts effect)) p.0 ∙ passed_through ts effect p.1
+  -- the first test that fails is the answer, and else the step is made
+  abbrev Steps : Line → Row (Change P) → Type 0
+  Steps line row = StepsBy (first_failing row.tests) w (with_change w (made row))
 
-  made_moves : (x : Result (Change P) Refusal) → IsMade (with_change w x).answer → Moves x → (with_change w x).world ≢ w
-  made_moves (Ok change) m h = h
-  made_moves (Err e) m h = absurd m
+  decides : (line : Line) (fails : Bool) (answer : Result Answer Refusal) (row : Row (Change P)) → IfOk answer IsStalled → (fails ≡ false → Steps line row) → Steps line (after (record { fails = fails; answer = answer } ∷ []) row)
+  decides line true (Ok answer) row h go = (refl, refl, h)
+  decides line true (Err e) row h go = (refl, refl, h)
+  decides line false answer row h go = go refl
 
-  row_moves : (row : Row (Change P)) → (Passes row.tests → Moves row.effect) → first_failing row.tests ≡ None → IsMade (with_change w (made row)).answer → (with_change w (made row)).world ≢ w
-  row_moves row h none made = made_moves (passed row.tests row.effect) made (let p = all_pass row.tests none in subst Moves (sym (passed_through row.tests row.effect p)) (h p))
-
-  -- as the law says it
-  tested : (first : Option (Result Answer Refusal)) (outcome : Outcome P) → Decides first w outcome → IfSome first (λ answer. IfOk answer IsStalled) → (first ≡ None → IsMade outcome.answer → outcome.world ≢ w) → StepsBy first w outcome
-  tested (Some answer) outcome decides stalls h = (decides.0, decides.1, stalls)
-  tested None outcome decides stalls h = (decides, h refl decides)
+  steps_by_row : Sweep plans w Steps
+  steps_by_row = record {
+    stops = λ line fails e row h go. decides line fails (Err e) row tt go;
+    stalls = λ line fails answer row never stalled go. decides line fails (Ok answer) row stalled go;
+    lacks = λ line e h lack. absurd (nothing_lacks plans layout slots laws w l lack);
+    reads = λ r v verb was. moves_read r v was;
+    updates = moves_update;
+    works = moves_work;
+  }
 
   is_tested : ScansExactly plans layout slots laws → (line : Line) → IsTested plans w line
-  is_tested scans line =
-      tested (first_failing (line_tests plans w line)) (outcome_of plans w line) (is_decided plans layout slots laws w l scans line) (first_stalls (exact plans w) w line)
-      (λ none. row_moves (row_of plans w line) (moves line) (ap (λ (row : Row (Change P)). first_failing row.tests) (exact_row plans layout slots laws w l scans line) ∙ none))
+  is_tested scans line = subst (λ (row : Row (Change P)). StepsBy (first_failing row.tests) w (outcome_of plans w line)) (exact_row plans layout slots laws w l scans line) (sweep plans w Steps steps_by_row line)
 
 module _ {P : Type 0} (plans : Plans P) (laws : (layout : Layout) (slots : ℕ) → Laws plans layout slots)
     (scans : (layout : Layout) (slots : ℕ) → ScansExactly plans layout slots (laws layout slots))

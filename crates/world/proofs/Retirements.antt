@@ -1,5 +1,5 @@
 -- What the steps of `retire` keep, and that what they tell may come.
-use Rattle.world.proofs.Cited.{◌≡◌, ◌≢◌, ◌⊎◌, ⊎_elim, ℕ, true≢false, inl, inr, ◌+◌, ◌%◌, ◌<◌, ◌≤◌, ◌&&◌, is_some, true, false, List, [], ◌∷◌, ◌++◌, length, slice_get, slice_set, Option, Some, None, Result, Ok, refl, sym, ap, ◌∙◌, subst, arith, length-append, length-set, eqb-true, and_parts, mod_below, get_or_from_slice_get, ObjectId, SectionId, Refusal, at_object, State, In, has_object_in, in_objects, at_object_same, at_object_other, decide, none_some, some_is, Layout, items_of, given_of, Life, Stage, Mark, ObjectState, QueueState, RetireStep, UpdaterPlace, Idle, Retires, Bars, UpdaterState, WorkerState, Change, Hold, marked_life, empty_queue_state, item_of, held_by, acted, changed_at, acted_at, held_at, Plans, BoardView, no_object, stage_of, chain_of, within, life_of, life_within, life_marked, life_else, chain_marked, Items, Has, Stands, InQueue, queue_at, has_left, has_right, has_stands, stands_left, stands_last, stands_more, changed_here, changed_length, items_pushed}
+use Rattle.world.proofs.Cited.{◌≡◌, ◌≢◌, ◌⊎◌, ⊎_elim, ℕ, true≢false, inl, inr, ◌+◌, ◌%◌, ◌<◌, ◌≤◌, ◌&&◌, is_some, true, false, List, [], ◌∷◌, ◌++◌, length, slice_get, slice_set, Option, Some, None, Result, Ok, refl, sym, ap, ◌∙◌, subst, arith, length-append, length-set, eqb-true, and_parts, mod_below, get_or_from_slice_get, ObjectId, SectionId, Refusal, at_object, State, In, has_object_in, in_objects, at_object_same, at_object_other, decide, none_some, some_is, Layout, items_of, given_of, Life, Stage, Mark, ObjectState, QueueState, RetireStep, Idle, Retires, UpdaterState, WorkerState, Change, Hold, marked_life, empty_queue_state, item_of, held_by, acted, changed_at, acted_at, held_at, Plans, BoardView, no_object, stage_of, chain_of, within, life_of, life_within, life_marked, life_else, chain_marked, Items, Has, Stands, InQueue, queue_at, has_left, has_right, has_stands, stands_left, stands_last, stands_more, changed_here, changed_length, items_pushed}
 use Rattle.rcu_model.specs.declared.event.Event.TheVariants as events
 use Rattle.world_state.specs.declared.object.Life.TheVariants as life
 use Rattle.world_state.specs.declared.object.Stage.TheVariants as stage
@@ -8,31 +8,15 @@ use Rattle.world_state.specs.declared.updater.RetireStep.TheVariants as due
 use Rattle.world.specs.Chains.{writes}
 use Rattle.world.specs.Queues.{queue_of, at_place, is_cut, is_kept, may_retire, retire_on}
 use Rattle.world.proofs.Fence.{Laws}
-use Rattle.world.proofs.Tests.{none_is}
+use Rattle.world.proofs.Rows.{none_is}
 use Rattle.world.proofs.State.{place_work, updater_at, worker_at, Kept, at_updaters}
-use Rattle.world.proofs.KeptPublishing.{There}
+use Rattle.world.proofs.KeptPublishing.{There, kept_updater, beside}
 use Rattle.world.proofs.KeptReaders.{longer, log_one}
-use Rattle.world.proofs.Callbacks.{Found, LifeKept, ItemsKept, QueueKept, Retiring, RetireKept, WorkAt, BarKept, Barring, CallbacksKept, Callbacks, at_queues, work_at, queue_kept, sizes_over, numbers_over}
-use Rattle.world.proofs.QueueChanges.{found_over, retire_marked, retire_apart, retire_here, bar_over, stays, items_stay}
-use Rattle.world.proofs.Plain.{OwesAll, logged_more, one_barrier_set}
-use Rattle.world.proofs.Beside.{kept_updater, beside}
+use Rattle.world.proofs.Callbacks.{Found, LifeKept, ItemsKept, QueueKept, Retiring, RetireKept, WorkAt, BarKept, CallbacksKept, Callbacks, at_queues, work_at, queue_kept, sizes_over, numbers_over, found_over, retire_marked, retire_apart, retire_here, bar_over, stays, items_stay, BarsNone, bars_kept, bars_none, OwesAll, logged_more, one_barrier_set}
 
 -- who is ready or waits stands in the queue
 pub ready_there : (q : QueueState) (o : ObjectId) → Has q.items.ready o → (t : ℕ) × InQueue q t o
 ready_there q o h = has_stands q.items.gone (items_of q.items) o (has_left (q.items.ready ++ q.items.waiting) q.items.fresh o (has_left q.items.ready q.items.waiting o h))
-
--- the updater is idle or retires: no barrier of it is under way
-abbrev pub BarsNone : {P : Type 0} → UpdaterPlace P → Type 0
-BarsNone (Bars b) = ⊥
-BarsNone _ = Unit {0}
-
-pub bars_none : {P : Type 0} (p : UpdaterPlace P) (n : ℕ) → BarsNone p → ¬ Barring p n
-bars_none (Bars b) n h c = h
-bars_none _ n h b = b
-
-pub bars_kept : {P : Type 0} (qs : List QueueState) (noted cleared : List ℕ) (noted_objects : ℕ → List ObjectId) (p : UpdaterPlace P) → BarsNone p → BarKept qs noted cleared noted_objects p
-bars_kept qs noted cleared noted_objects (Bars b) h = absurd h
-bars_kept qs noted cleared noted_objects _ h = tt
 
 -- one more object is retired, or queued, or reclaimed: the others are as before
 in_other : (o p : ObjectId) (os : List ObjectId) → p ≢ o → In (o ∷ os) p → In os p

@@ -1,5 +1,5 @@
 -- Each row of the step table, gone through once: what stood there before the line, and what the tests of the row say.
-use Rattle.world.proofs.Cited.{◌≡◌, ◌⊎◌, ℕ, true≢false, ◌+◌, ◌^◌, ◌==◌, cond, not, Bool, true, false, length, get_or, slice_get, nat_le, nat_lt, List, [], ◌∷◌, Option, Some, None, Result, Ok, Err, refl, sym, ◌∙◌, subst, IfErr, Event, ObjectId, Refusal, NoActor, NotOpen, Busy, WrongFlavour, NoPlace, Layout, count_of, greatest_count, entered_of, left_of, is_online, cookie_for, Item, Ticket, items_of, SyncCore, Tickets, WorkerCore, new_core, after_take, item_done, Answer, Events, Quiet, Wait, Blocked, Line, Reader, Updater, Worker, ReaderVerb, UpdaterVerb, WorkerVerb, Mark, ObjectState, QueueAct, QueueState, ReaderState, ReaderStep, Barrier, BarrierStep, Note, Check, GraceState, Holder, Publishing, RetireStep, Started, UpdaterPlace, Idle, Publishes, Syncs, Retires, Bars, UpdaterState, WorkerState, Change, Read, Begin, Publish, Grace, Hold, Bar, Work, Stay, fresh_object, item_of, section_of, is_open_in, quietly, telling, with_word, opened, closed, found_row, stores, lock_row, enter_row, unlock_row, online_row, quiescent_row, offline_row, announce_row, go_online_row, touch_row, Plans, BoardView, told, changed}
+use Rattle.world.proofs.Cited.{◌≡◌, ◌⊎◌, ℕ, true≢false, ◌+◌, ◌^◌, ◌==◌, cond, not, Bool, true, false, length, get_or, slice_get, nat_le, nat_lt, List, [], ◌∷◌, Option, Some, None, Result, Ok, Err, refl, sym, ◌∙◌, subst, not-false, IfErr, Event, ObjectId, Refusal, NoActor, NotOpen, Busy, WrongFlavour, NoPlace, Layout, count_of, greatest_count, entered_of, left_of, is_online, cookie_for, Item, Ticket, items_of, SyncCore, Tickets, WorkerCore, new_core, after_take, item_done, Answer, Events, Quiet, Wait, Blocked, Line, Reader, Updater, Worker, ReaderVerb, UpdaterVerb, WorkerVerb, Mark, ObjectState, QueueAct, QueueState, ReaderState, ReaderStep, Barrier, BarrierStep, Note, Check, GraceState, Holder, Publishing, RetireStep, Started, UpdaterPlace, Idle, Publishes, Syncs, Retires, Bars, UpdaterState, WorkerState, Change, Read, Begin, Publish, Grace, Hold, Bar, Work, Stay, fresh_object, item_of, section_of, is_open_in, quietly, telling, with_word, opened, closed, found_row, stores, lock_row, enter_row, unlock_row, online_row, quiescent_row, offline_row, announce_row, go_online_row, touch_row, Plans, BoardView, told, changed, cond_both}
 use Rattle.std.specs.Prelude.{is_some}
 use Rattle.std.specs.List.{AllByRecursion as Every}
 use Rattle.rcu_model.specs.declared.event.Event.TheVariants as events
@@ -22,10 +22,9 @@ use Rattle.world.specs.Lines.{of_memb, of_qsbr, in_section, reader_on, reader_ve
 use Rattle.world.specs.Queues.{queue_of, at_place, may_retire, lock_row as queue_lock_row, retire_on, finished_in, after_note, noted_at, barrier_row, checked, barrier_on}
 use Rattle.world.specs.Refusals.{IsStepError}
 use Rattle.world.specs.Row.{Row, refused_if, stalled_if, guarded, after, makes, refused, unreached, tried, read_by, made}
-use Rattle.world.specs.Steps.{IsOfReader}
+use Rattle.world.specs.Steps.{IsOfReader, IsStalled}
 use Rattle.world.specs.Workers.{is_none_left, first_in, first_fresh, with_core, take_row, ask_for, work_change, run_row, worker_on, is_resting}
 use Rattle.world.proofs.GraceRows.{TurnRow, Late, each_turn, tells}
-use Rattle.world.proofs.Tests.{not_false, none_is}
 
 pub idle_tells : {P : Type 0} (place : UpdaterPlace P) → is_idle place ≡ true → place ≡ Idle
 idle_tells Idle e = refl
@@ -34,6 +33,23 @@ idle_tells _ e = absurd (true≢false (sym e))
 pub rest_tells : {P : Type 0} (core : WorkerCore P Unit) → is_resting core ≡ true → core ≡ worker.Idle
 rest_tells worker.Idle e = refl
 rest_tells _ e = absurd (true≢false (sym e))
+
+pub not_false : {b : Bool} → not b ≡ false → b ≡ true
+not_false {b} e = not-false b e
+
+pub none_is : {X : Type 0} (o : Option X) → is_some o ≡ false → o ≡ None
+none_is None e = refl
+none_is (Some x) e = absurd (true≢false e)
+
+-- what is looked up is there or not
+pub by_option : {X : Type 0} (Q : Option X → Type 0) (o : Option X) → (o ≡ None → Q None) → ((x : X) → o ≡ Some x → Q (Some x)) → Q o
+by_option Q None none some = none refl
+by_option Q (Some x) none some = some x refl
+
+-- a step that was not made tells nothing
+pub stalled_silent : (answer : Answer) → IsStalled answer → told answer ≡ []
+stalled_silent (Events first second) h = absurd h
+stalled_silent _ h = refl
 
 -- ---- what words, cookies and steps of grace periods are refused by
 
@@ -46,9 +62,6 @@ whichever false x y p q = q
 
 enter_fails : (layout : Layout) (word : ℕ) (phase : Bool) → Fails (entered_of layout word phase)
 enter_fails layout word phase = whichever (count_of layout word == 0) _ _ tt (whichever (count_of layout word == greatest_count layout) _ _ tt tt)
-
-leave_fails : (layout : Layout) (word : ℕ) → Fails (left_of layout word)
-leave_fails layout word = whichever (count_of layout word == 0) _ _ tt tt
 
 cookie_fails : (seq : ℕ) → Fails (cookie_for seq)
 cookie_fails seq = whichever (nat_lt seq (2 ^ 62)) _ _ tt tt
@@ -205,7 +218,7 @@ module _ {P : Type 0} (plans : Plans P) (w : BoardView P) where
   module _ (G : Line → Row (Change P) → Type 0) where
     pub record Sweep : Type 0 where
       pub stops : (line : Line) (fails : Bool) (e : Refusal) (row : Row (Change P)) → IsStepError e → (fails ≡ false → G line row) → G line (after (refused_if fails e ∷ []) row)
-      pub stalls : (line : Line) (fails : Bool) (answer : Answer) (row : Row (Change P)) → (IsOfReader line → ⊥) → told answer ≡ [] → (fails ≡ false → G line row) → G line (after (stalled_if fails answer ∷ []) row)
+      pub stalls : (line : Line) (fails : Bool) (answer : Answer) (row : Row (Change P)) → (IsOfReader line → ⊥) → IsStalled answer → (fails ≡ false → G line row) → G line (after (stalled_if fails answer ∷ []) row)
       pub lacks : (line : Line) (e : Refusal) → IsStepError e → Lack → G line (unreached e)
       pub reads : (r : ℕ) (v : ReaderState) (verb : ReaderVerb) → slice_get w.readers r ≡ Some v → ReaderRows plans.qsbr w.layout w r v (λ step. G (Reader r verb) (makes (Read r step)))
       pub updates : (u : ℕ) (x : UpdaterState P) → slice_get w.updaters u ≡ Some x → UpdaterRows u x (λ v change. G (Updater u v) (makes change))
@@ -216,12 +229,11 @@ module _ {P : Type 0} (plans : Plans P) (w : BoardView P) where
       refuses line e h = s.stops line true e (unreached e) h (λ never. absurd (true≢false never))
 
       one_of : (line : Line) (b : Bool) (y z : Change P) → (b ≡ true → G line (makes y)) → (b ≡ false → G line (makes z)) → G line (makes (cond b y z))
-      one_of line true y z p q = p refl
-      one_of line false y z p q = q refl
+      one_of line b y z = cond_both b y z (λ (change : Change P). G line (makes change))
 
       turn : (line : Line) → (IsOfReader line → ⊥) → (change : GraceStep P → Change P) (r : Result (GraceStep P) Refusal) → Fails r → ((step : GraceStep P) → r ≡ Ok step → is_blocked step.answer ≡ false → is_waiting step.answer ≡ false → G line (makes (change step))) → G line (sync_row change r)
-      turn line never change (Ok step) f h = s.stalls line (is_blocked step.answer) Blocked (guarded (stalled_if (is_waiting step.answer) Wait ∷ []) (Ok (change step))) never refl
-          (λ goes. s.stalls line (is_waiting step.answer) Wait (makes (change step)) never refl (λ on. h step refl goes on))
+      turn line never change (Ok step) f h = s.stalls line (is_blocked step.answer) Blocked (guarded (stalled_if (is_waiting step.answer) Wait ∷ []) (Ok (change step))) never tt
+          (λ goes. s.stalls line (is_waiting step.answer) Wait (makes (change step)) never tt (λ on. h step refl goes on))
       turn line never change (Err e) f h = refuses line e f
 
       -- readers
@@ -248,12 +260,10 @@ module _ {P : Type 0} (plans : Plans P) (w : BoardView P) where
         section row h = stopped (not (is_open_in plans.qsbr w.layout v.word)) NotOpen row tt (λ e. h (not_false e))
 
         which : (b : Bool) (x y : Result ReaderStep Refusal) → (b ≡ true → R (tried x)) → (b ≡ false → R (tried y)) → R (tried (cond b x y))
-        which true x y p q = p refl
-        which false x y p q = q refl
+        which b x y = cond_both b x y (λ (step : Result ReaderStep Refusal). R (tried step))
 
         which_step : (b : Bool) (x y : ReaderStep) → (b ≡ true → R (makes x)) → (b ≡ false → R (makes y)) → R (makes (cond b x y))
-        which_step true x y p q = p refl
-        which_step false x y p q = q refl
+        which_step b x y = cond_both b x y (λ (step : ReaderStep). R (makes step))
 
         stored : (step : ℕ → ReaderStep) (x : Result ℕ Refusal) → Fails x → ((word : ℕ) → x ≡ Ok word → R (makes (step word))) → R (tried (stores step x))
         stored step (Ok word) f h = h word refl
@@ -274,28 +284,12 @@ module _ {P : Type 0} (plans : Plans P) (w : BoardView P) where
             by true flavour = which_step (is_online v.word) (announce_row copied r v) (go_online_row copied r v) (λ online. rows _ (Announces copied has flavour online)) (λ offline. rows _ (GoesOnline copied has flavour offline))
             by false flavour = enter flavour (entered_of w.layout v.word (copied == 1)) refl (enter_fails w.layout v.word (copied == 1))
 
-        first : (c : ℕ) (head : Option (Option ObjectId)) → v.copy ≡ None → is_open_in plans.qsbr w.layout v.word ≡ true → slice_get w.heads c ≡ head → R (first_row r v c head)
-        first c None none open' is = refuses (Reader r verb) NoPlace tt
-        first c (Some head) none open' is = rows _ (Firsts c head none open' is)
-
-        next : (from : Option ObjectId) → v.copy ≡ None → is_open_in plans.qsbr w.layout v.word ≡ true → v.cursor ≡ from → R (next_from w r v from)
-        next None none open' from = refuses (Reader r verb) NoPlace tt
-        next (Some o) none open' from = by (slice_get w.objects o.0) refl
-          where
-            by : (x : Option ObjectState) → slice_get w.objects o.0 ≡ x → R (next_row r v o x)
-            by None is = s.lacks (Reader r verb) NoPlace tt (NoNext r v o was from is)
-            by (Some x) is = rows _ (Nexts o x none open' from is)
-
-        touch : (from : Option ObjectId) → v.copy ≡ None → is_open_in plans.qsbr w.layout v.word ≡ true → v.cursor ≡ from → R (tried (touch_row r v from))
-        touch None none open' from = refuses (Reader r verb) NoPlace tt
-        touch (Some o) none open' from = rows _ (Touches o none open' from)
-
         sweep_read : (b : ReaderVerb) → R (reader_line plans.qsbr w r v b)
         sweep_read reader.Lock = fresh (reader_verb plans.qsbr w r v reader.Lock) (λ none. memb (tried (lock_row w.layout w.grace.word v)) (λ flavour.
             which (count_of w.layout v.word == 0) _ _ (λ zero. rows _ (Copies none (λ _. zero)))
             (λ more. stored _ (entered_of w.layout v.word false) (enter_fails w.layout v.word false) (λ word is. rows _ (Nests word none flavour more is)))))
         sweep_read reader.Unlock = fresh (reader_verb plans.qsbr w r v reader.Unlock) (λ none. memb (tried (unlock_row w.layout r v)) (λ flavour.
-            stored _ (left_of w.layout v.word) (leave_fails w.layout v.word)
+            stored _ (left_of w.layout v.word) (whichever (count_of w.layout v.word == 0) _ _ tt tt)
             (λ word is. which_step (count_of w.layout word == 0) _ _ (λ zero. rows _ (Unlocks word none flavour is zero)) (λ more. rows _ (Unnests word none flavour is more)))))
         sweep_read reader.Online = fresh (reader_verb plans.qsbr w r v reader.Online) (λ none. qsbr (tried (online_row w.grace.word v)) (λ flavour.
             which (is_online v.word) _ _ (λ online. refuses (Reader r verb) Busy tt) (λ offline. rows _ (Copies none (other_flavour flavour)))))
@@ -303,9 +297,13 @@ module _ {P : Type 0} (plans : Plans P) (w : BoardView P) where
             which (is_online v.word) _ _ (λ online. rows _ (Copies none (other_flavour flavour))) (λ offline. refuses (Reader r verb) NotOpen tt)))
         sweep_read reader.Offline = fresh (reader_verb plans.qsbr w r v reader.Offline) (λ none. qsbr (tried (offline_row r v)) (λ flavour.
             which (is_online v.word) _ _ (λ online. rows _ (Leaves none flavour online)) (λ offline. refuses (Reader r verb) NotOpen tt)))
-        sweep_read (reader.First c) = fresh (reader_verb plans.qsbr w r v (reader.First c)) (λ none. section (first_row r v c (slice_get w.heads c)) (λ open'. first c (slice_get w.heads c) none open' refl))
-        sweep_read reader.Next = fresh (reader_verb plans.qsbr w r v reader.Next) (λ none. section (next_from w r v v.cursor) (λ open'. next v.cursor none open' refl))
-        sweep_read reader.Touch = fresh (reader_verb plans.qsbr w r v reader.Touch) (λ none. section (tried (touch_row r v v.cursor)) (λ open'. touch v.cursor none open' refl))
+        sweep_read (reader.First c) = fresh (reader_verb plans.qsbr w r v (reader.First c)) (λ none. section (first_row r v c (slice_get w.heads c)) (λ open'.
+            by_option (λ head. R (first_row r v c head)) (slice_get w.heads c) (λ is. refuses (Reader r verb) NoPlace tt) (λ head is. rows _ (Firsts c head none open' is))))
+        sweep_read reader.Next = fresh (reader_verb plans.qsbr w r v reader.Next) (λ none. section (next_from w r v v.cursor) (λ open'.
+            by_option (λ from. R (next_from w r v from)) v.cursor (λ from. refuses (Reader r verb) NoPlace tt)
+            (λ o from. by_option (λ x. R (next_row r v o x)) (slice_get w.objects o.0) (λ is. s.lacks (Reader r verb) NoPlace tt (NoNext r v o was from is)) (λ x is. rows _ (Nexts o x none open' from is)))))
+        sweep_read reader.Touch = fresh (reader_verb plans.qsbr w r v reader.Touch) (λ none. section (tried (touch_row r v v.cursor)) (λ open'.
+            by_option (λ from. R (tried (touch_row r v from))) v.cursor (λ from. refuses (Reader r verb) NoPlace tt) (λ o from. rows _ (Touches o none open' from))))
         sweep_read reader.GoOn = stopped (not (is_some v.copy)) NotOpen (reader_verb plans.qsbr w r v reader.GoOn) tt (λ goes. on v.copy refl (not_false goes))
 
       -- updaters
@@ -322,45 +320,19 @@ module _ {P : Type 0} (plans : Plans P) (w : BoardView P) where
         idle : (v : UpdaterVerb) (row : Row (Change P)) → (WasAt u x Idle → U v row) → U v (after (refused_if (not (is_idle x.place)) Busy ∷ []) row)
         idle v row h = s.stops (Updater u v) (not (is_idle x.place)) Busy row tt (λ goes. h (record { was = was; at = idle_tells x.place (not_false goes) }))
 
-        push : (c : ℕ) (head : Option (Option ObjectId)) → WasAt u x Idle → slice_get w.heads c ≡ head → U (updater.Push c) (push_row w u x c head)
-        push c None at is = refuses (Updater u (updater.Push c)) NoPlace tt
-        push c (Some head) at is = s.stops (Updater u (updater.Push c)) (not (writes w u c)) NoPlace (makes _) tt (λ mine. rows_of _ _ (ByPush c head at is (not_false mine)))
-
-        replace : (o : ObjectId) (y : Option ObjectState) → WasAt u x Idle → linked_by w u (slice_get w.objects o.0) ≡ y → U (updater.Replace o) (replace_row w u x o y)
-        replace o None at is = refuses (Updater u (updater.Replace o)) NoPlace tt
-        replace o (Some y) at is = rows_of _ _ (ByReplace o y at is)
-
-        cut : (o : ObjectId) (y : Option ObjectState) → WasAt u x Idle → linked_by w u (slice_get w.objects o.0) ≡ y → U (updater.Cut o) (cut_row u x o y)
-        cut o None at is = refuses (Updater u (updater.Cut o)) NoPlace tt
-        cut o (Some y) at is = rows_of _ _ (ByCut o y at is)
-
-        lock : (o : ObjectId) (q : Option QueueState) → WasAt u x Idle → may_retire w u (slice_get w.objects o.0) ≡ true → slice_get w.queues (queue_of w u) ≡ q → U (updater.Retire o) (queue_lock_row w u x o q)
-        lock o None at may is = s.lacks (Updater u (updater.Retire o)) NoPlace tt (NoQueue u is)
-        lock o (Some q) at may is = s.stalls (Updater u (updater.Retire o)) (is_some q.holder) Blocked (makes _) none refl (λ free. rows_of _ _ (ByHold o q at may is free))
-
         start : (cookie : Result ℕ Refusal) → WasAt u x Idle → cookie_for w.grace.seq ≡ cookie → Fails cookie → U updater.Start (start_row w u x cookie)
         start (Ok c) at is f = rows_of _ _ (ByStart c at is)
         start (Err e) at is f = refuses (Updater u updater.Start) e f
 
-        poll : (y : Option Started) → WasAt u x Idle → x.started ≡ y → U updater.Poll (poll_row w u x y)
-        poll None at is = refuses (Updater u updater.Poll) NotOpen tt
-        poll (Some y) at is = s.stalls (Updater u updater.Poll) (not (nat_le y.cookie w.grace.seq)) Wait (makes _) none refl (λ up. rows_of _ _ (ByPoll y at is (not_false up)))
-
         publish : (what : Publishing) → WasAt u x (Publishes what) → U updater.GoOn (published w u x what)
-        publish (publishing.Push new) at = by (slice_get w.objects new.0) refl
-          where
-            by : (y : Option ObjectState) → slice_get w.objects new.0 ≡ y → U updater.GoOn (pushed_row u (record x { place = Idle }) new y)
-            by None is = s.lacks (Updater u updater.GoOn) NoPlace tt (NoPushed u x new at is)
-            by (Some y) is = rows_of _ _ (ByPushed new y at is)
-        publish (publishing.Replace old new) at = by (slice_get w.objects old.0) refl
-          where
-            by : (y : Option ObjectState) → slice_get w.objects old.0 ≡ y → U updater.GoOn (replaced_row u (record x { place = Idle }) old new y)
-            by None is = s.lacks (Updater u updater.GoOn) NoPlace tt (NoReplaced u x old new at is)
-            by (Some y) is = rows_of _ _ (ByReplaced old new y at is)
+        publish (publishing.Push new) at = by_option (λ y. U updater.GoOn (pushed_row u (record x { place = Idle }) new y)) (slice_get w.objects new.0)
+            (λ is. s.lacks (Updater u updater.GoOn) NoPlace tt (NoPushed u x new at is)) (λ y is. rows_of _ _ (ByPushed new y at is))
+        publish (publishing.Replace old new) at = by_option (λ y. U updater.GoOn (replaced_row u (record x { place = Idle }) old new y)) (slice_get w.objects old.0)
+            (λ is. s.lacks (Updater u updater.GoOn) NoPlace tt (NoReplaced u x old new at is)) (λ y is. rows_of _ _ (ByReplaced old new y at is))
 
         barrier : (b : Barrier) (step : BarrierStep) → WasAt u x (Bars b) → b.due ≡ step → U updater.GoOn (barrier_on w u x b step)
         barrier b (Note q) at is = rows_of _ _ (ByNote b q at is)
-        barrier b (Check q) at is = s.stalls (Updater u updater.GoOn) (not (nat_le (get_or b.counts q 0) (finished_in (slice_get w.queues q)))) Wait (makes (checked w u x b q)) none refl (λ up.
+        barrier b (Check q) at is = s.stalls (Updater u updater.GoOn) (not (nat_le (get_or b.counts q 0) (finished_in (slice_get w.queues q)))) Wait (makes (checked w u x b q)) none tt (λ up.
             one_of (Updater u updater.GoOn) (nat_lt (q + 1) (length w.queues)) _ _ (λ more. rows_of _ _ (ByCheck b q at is (not_false up) more)) (λ last. rows_of _ _ (ByClear b q at is (not_false up) last)))
 
         go_on : (place : UpdaterPlace P) → WasAt u x place → not (is_idle place) ≡ true → U updater.GoOn (updater_on plans w u x place)
@@ -371,15 +343,20 @@ module _ {P : Type 0} (plans : Plans P) (w : BoardView P) where
         go_on (Bars b) at busy = barrier b b.due at refl
 
         sweep_update : (v : UpdaterVerb) → U v (updater_line plans w u x v)
-        sweep_update (updater.Push c) = idle (updater.Push c) (updater_verb plans w u x (updater.Push c)) (λ at. push c (slice_get w.heads c) at refl)
-        sweep_update (updater.Replace o) = idle (updater.Replace o) (updater_verb plans w u x (updater.Replace o)) (λ at. replace o (linked_by w u (slice_get w.objects o.0)) at refl)
-        sweep_update (updater.Cut o) = idle (updater.Cut o) (updater_verb plans w u x (updater.Cut o)) (λ at. cut o (linked_by w u (slice_get w.objects o.0)) at refl)
-        sweep_update (updater.Retire o) = idle (updater.Retire o) (updater_verb plans w u x (updater.Retire o)) (λ at. s.stops (Updater u (updater.Retire o)) (not (may_retire w u (slice_get w.objects o.0))) NoPlace
-            (queue_lock_row w u x o (slice_get w.queues (queue_of w u))) tt (λ may. lock o (slice_get w.queues (queue_of w u)) at (not_false may) refl))
+        sweep_update (updater.Push c) = idle (updater.Push c) (updater_verb plans w u x (updater.Push c)) (λ at. by_option (λ head. U (updater.Push c) (push_row w u x c head)) (slice_get w.heads c)
+            (λ is. refuses (Updater u (updater.Push c)) NoPlace tt) (λ head is. s.stops (Updater u (updater.Push c)) (not (writes w u c)) NoPlace (makes _) tt (λ mine. rows_of _ _ (ByPush c head at is (not_false mine)))))
+        sweep_update (updater.Replace o) = idle (updater.Replace o) (updater_verb plans w u x (updater.Replace o)) (λ at. by_option (λ y. U (updater.Replace o) (replace_row w u x o y)) (linked_by w u (slice_get w.objects o.0))
+            (λ is. refuses (Updater u (updater.Replace o)) NoPlace tt) (λ y is. rows_of _ _ (ByReplace o y at is)))
+        sweep_update (updater.Cut o) = idle (updater.Cut o) (updater_verb plans w u x (updater.Cut o)) (λ at. by_option (λ y. U (updater.Cut o) (cut_row u x o y)) (linked_by w u (slice_get w.objects o.0))
+            (λ is. refuses (Updater u (updater.Cut o)) NoPlace tt) (λ y is. rows_of _ _ (ByCut o y at is)))
+        sweep_update (updater.Retire o) = idle (updater.Retire o) (updater_verb plans w u x (updater.Retire o)) (λ at. s.stops (Updater u (updater.Retire o)) (not (may_retire w u (slice_get w.objects o.0))) NoPlace (queue_lock_row w u x o (slice_get w.queues (queue_of w u))) tt
+            (λ may. by_option (λ q. U (updater.Retire o) (queue_lock_row w u x o q)) (slice_get w.queues (queue_of w u)) (λ is. s.lacks (Updater u (updater.Retire o)) NoPlace tt (NoQueue u is))
+            (λ q is. s.stalls (Updater u (updater.Retire o)) (is_some q.holder) Blocked (makes _) none tt (λ free. rows_of _ _ (ByHold o q at (not_false may) is free)))))
         sweep_update updater.Sync = idle updater.Sync (updater_verb plans w u x updater.Sync) (λ at. turn (Updater u updater.Sync) none (grace_change plans u x (w.grace.asks + 1)) (grace_row plans w (holder.Updater u) (w.grace.asks + 1) new_core)
             (grace_fails plans w (holder.Updater u) (w.grace.asks + 1) new_core) (λ step is goes on. rows_of _ _ (BySync step at is goes on)))
         sweep_update updater.Start = idle updater.Start (updater_verb plans w u x updater.Start) (λ at. start (cookie_for w.grace.seq) at refl (cookie_fails w.grace.seq))
-        sweep_update updater.Poll = idle updater.Poll (updater_verb plans w u x updater.Poll) (λ at. poll x.started at refl)
+        sweep_update updater.Poll = idle updater.Poll (updater_verb plans w u x updater.Poll) (λ at. by_option (λ y. U updater.Poll (poll_row w u x y)) x.started (λ is. refuses (Updater u updater.Poll) NotOpen tt)
+            (λ y is. s.stalls (Updater u updater.Poll) (not (nat_le y.cookie w.grace.seq)) Wait (makes _) none tt (λ up. rows_of _ _ (ByPoll y at is (not_false up)))))
         sweep_update updater.Barrier = idle updater.Barrier (updater_verb plans w u x updater.Barrier) (λ at. rows_of _ _ (ByBarrier at))
         sweep_update updater.GoOn = s.stops (Updater u updater.GoOn) (not (not (is_idle x.place))) NotOpen (updater_verb plans w u x updater.GoOn) tt (λ goes. go_on x.place (record { was = was; at = refl }) (not_false goes))
 
@@ -394,44 +371,27 @@ module _ {P : Type 0} (plans : Plans P) (w : BoardView P) where
         no_reader : IsOfReader (Worker k verb.GoOn) → ⊥
         no_reader h = h
 
-        take : (q : Option QueueState) → WorkedAt k x worker.Idle → slice_get w.queues k ≡ q → W verb.Take (take_row w k x q)
-        take None at is = s.lacks (Worker k verb.Take) NoActor tt (NoBatch k x was is)
-        take (Some q) at is = s.stalls (Worker k verb.Take) (is_some q.holder) Blocked (guarded (stalled_if (is_none_left (items_of q.items)) NothingThere ∷ []) (Ok _)) no_reader refl
-            (λ free. s.stalls (Worker k verb.Take) (is_none_left (items_of q.items)) NothingThere (makes _) no_reader refl (λ some. rows_for.takes q at is free some))
-
-        run : (tickets : Tickets) (first : Option (Ticket × ObjectId)) → WorkedAt k x (worker.Pops tickets) → first_in (slice_get w.queues k) ≡ first → W verb.GoOn (run_row w k x tickets first)
-        run tickets None at is = s.lacks (Worker k verb.GoOn) NotOpen tt (NoneReady k x tickets at is)
-        run tickets (Some first) at is = rows_for.runs tickets first at is
-
         work_on : (place : WorkerCore P Unit) → WorkedAt k x place → not (is_resting place) ≡ true → W verb.GoOn (worker_on plans w k x place)
         work_on worker.Idle at busy = absurd (true≢false (sym busy))
         work_on (worker.Syncs sync tickets) at busy = turn (Worker k verb.GoOn) no_reader (work_change k (ask_for w x.ask sync) tickets) (grace_row plans w (holder.Worker k) (ask_for w x.ask sync) sync)
             (grace_fails plans w (holder.Worker k) (ask_for w x.ask sync) sync) (λ step is goes on. rows_for.works sync tickets step at is goes on)
-        work_on (worker.Pops tickets) at busy = run tickets (first_in (slice_get w.queues k)) at refl
+        work_on (worker.Pops tickets) at busy = by_option (λ first. W verb.GoOn (run_row w k x tickets first)) (first_in (slice_get w.queues k))
+            (λ is. s.lacks (Worker k verb.GoOn) NotOpen tt (NoneReady k x tickets at is)) (λ first is. rows_for.runs tickets first at is)
         work_on (worker.Runs tickets ticket item) at busy = s.lacks (Worker k verb.GoOn) NotOpen tt (NotRun k x tickets ticket item at)
         work_on (worker.Ran tickets ticket item) at busy = rows_for.counts tickets ticket item at
         work_on (worker.Counts tickets ticket) at busy = s.lacks (Worker k verb.GoOn) NotOpen tt (NotCounted k x tickets ticket at)
 
         sweep_work : (v : WorkerVerb) → W v (worker_line plans w k x v)
-        sweep_work verb.Take = s.stops (Worker k verb.Take) (not (is_resting x.core)) Busy (worker_verb plans w k x verb.Take) tt (λ rests. take (slice_get w.queues k) (record { was = was; at = rest_tells x.core (not_false rests) }) refl)
+        sweep_work verb.Take = s.stops (Worker k verb.Take) (not (is_resting x.core)) Busy (worker_verb plans w k x verb.Take) tt (λ rests. by_option (λ q. W verb.Take (take_row w k x q)) (slice_get w.queues k)
+            (λ is. s.lacks (Worker k verb.Take) NoActor tt (NoBatch k x was is))
+            (λ q is. s.stalls (Worker k verb.Take) (is_some q.holder) Blocked (guarded (stalled_if (is_none_left (items_of q.items)) NothingThere ∷ []) (Ok _)) no_reader tt
+            (λ free. s.stalls (Worker k verb.Take) (is_none_left (items_of q.items)) NothingThere (makes _) no_reader tt (λ some. rows_for.takes q (record { was = was; at = rest_tells x.core (not_false rests) }) is free some))))
         sweep_work verb.GoOn = s.stops (Worker k verb.GoOn) (not (not (is_resting x.core))) NotOpen (worker_verb plans w k x verb.GoOn) tt (λ goes. work_on x.core (record { was = was; at = refl }) (not_false goes))
 
-      of_reader_line : (r : ℕ) (verb : ReaderVerb) (v : Option ReaderState) → slice_get w.readers r ≡ v → G (Reader r verb) (of_reader plans.qsbr w r verb v)
-      of_reader_line r verb None is = refuses (Reader r verb) NoActor tt
-      of_reader_line r verb (Some v) is = sweep_read r v verb is verb
-
-      of_updater_line : (u : ℕ) (v : UpdaterVerb) (x : Option (UpdaterState P)) → slice_get w.updaters u ≡ x → G (Updater u v) (of_updater plans w u v x)
-      of_updater_line u v None is = refuses (Updater u v) NoActor tt
-      of_updater_line u v (Some x) is = sweep_update u x is v
-
-      of_worker_line : (k : ℕ) (v : WorkerVerb) (x : Option (WorkerState P)) → slice_get w.workers k ≡ x → G (Worker k v) (of_worker plans w k v x)
-      of_worker_line k v None is = refuses (Worker k v) NoActor tt
-      of_worker_line k v (Some x) is = sweep_work k x is v
-
       pub sweep : (line : Line) → G line (row_of plans w line)
-      sweep (Reader r verb) = of_reader_line r verb (slice_get w.readers r) refl
-      sweep (Updater u v) = of_updater_line u v (slice_get w.updaters u) refl
-      sweep (Worker k v) = of_worker_line k v (slice_get w.workers k) refl
+      sweep (Reader r verb) = by_option (λ v. G (Reader r verb) (of_reader plans.qsbr w r verb v)) (slice_get w.readers r) (λ is. refuses (Reader r verb) NoActor tt) (λ v is. sweep_read r v verb is verb)
+      sweep (Updater u v) = by_option (λ x. G (Updater u v) (of_updater plans w u v x)) (slice_get w.updaters u) (λ is. refuses (Updater u v) NoActor tt) (λ x is. sweep_update u x is v)
+      sweep (Worker k v) = by_option (λ x. G (Worker k v) (of_worker plans w k v x)) (slice_get w.workers k) (λ is. refuses (Worker k v) NoActor tt) (λ x is. sweep_work k x is v)
 
   -- ---- laws of changes
 
@@ -442,7 +402,7 @@ module _ {P : Type 0} (plans : Plans P) (w : BoardView P) where
     Each line (Err e) = Unit {0}
 
     pub record Law : Type 0 where
-      pub stays : (line : Line) (answer : Answer) → (IsOfReader line → ⊥) → told answer ≡ [] → F line (Stay answer)
+      pub stays : (line : Line) (answer : Answer) → (IsOfReader line → ⊥) → IsStalled answer → F line (Stay answer)
       pub reads : (r : ℕ) (v : ReaderState) (verb : ReaderVerb) → slice_get w.readers r ≡ Some v → ReaderRows plans.qsbr w.layout w r v (λ step. F (Reader r verb) (Read r step))
       pub updates : (u : ℕ) (x : UpdaterState P) → slice_get w.updaters u ≡ Some x → UpdaterRows u x (λ v change. F (Updater u v) change)
       pub works : (k : ℕ) (x : WorkerState P) → slice_get w.workers k ≡ Some x → WorkerRows k x (λ v change. F (Worker k v) change)

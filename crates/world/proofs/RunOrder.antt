@@ -13,13 +13,12 @@ use Rattle.world.specs.Lines.{world_after}
 use Rattle.world.specs.Queues.{queue_of, retire_on}
 use Rattle.world.specs.RunOrder.{RunInOrder}
 use Rattle.world.specs.Workers.{ask_for, worker_act, first_in}
-use Rattle.world.proofs.Found.{work_now}
-use Rattle.world.proofs.Callbacks.{own_queue, its_queue, IsOther, LifeKept, RetireKept, at_queues}
+use Rattle.world.proofs.Moving.{work_now}
+use Rattle.world.proofs.Callbacks.{own_queue, its_queue, IsOther, LifeKept, RetireKept, at_queues, AreOther, other_reads}
 use Rattle.world.proofs.Fence.{Laws}
 use Rattle.world.specs.Grace.{grace_row}
 use Rattle.world.proofs.GraceRows.{tells}
 use Rattle.world.proofs.Logged.{get_replicate, Logged, always}
-use Rattle.world.proofs.Plain.{AreOther, other_reads}
 use Rattle.world.proofs.Rows.{ByPush, ByReplace, BySync, ByTurn, ByHold, ByRetire, UpdaterRows, WasAt, WorkedAt, Law}
 
 -- ---- the log

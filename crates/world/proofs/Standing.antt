@@ -1,5 +1,5 @@
 -- The first test that fails goes by where the actor stands, and by the lock that its step needs free.
-use Rattle.world.proofs.Cited.{◌≡◌, ◌≢◌, ◌+◌, ◌-◌, ◌^◌, ◌==◌, ◌&&◌, ℕ, nat_le, nat_lt, cond, not, Bool, true, false, is_some, List, [], ◌∷◌, slice_get, Option, Some, None, Result, Ok, Err, refl, sym, ap, subst, IfOk, IfErr, IfSome, option_map_or, get_or_from_slice_get, Close, ObjectId, Refusal, NotOpen, Busy, NestFull, NoActor, NoPlace, count_of, greatest_count, fresh, is_online, cookie_for, Turn, Ticket, items_of, SyncCore, Told, Tickets, WorkerCore, Telling, asked_with, is_finished, turned, told_of, Change, Answer, Events, Quiet, Wait, Blocked, Line, Reader, Updater, Worker, ReaderVerb, UpdaterVerb, WorkerVerb, ObjectState, QueueState, ReaderState, ReaderStep, Barrier, BarrierStep, Note, Check, GraceState, Holder, Publishing, Started, UpdaterPlace, Idle, Publishes, Syncs, Retires, Bars, UpdaterState, WorkerState, new_worker, empty_queue_state, section_of, is_open_in, quietly, telling, with_word, closed, stores, touch_row, Plans, BoardView, idle}
+use Rattle.world.proofs.Cited.{◌≡◌, ◌≢◌, ◌+◌, ◌-◌, ◌^◌, ◌==◌, ◌&&◌, ℕ, nat_le, nat_lt, cond, not, Bool, true, false, is_some, List, [], ◌∷◌, slice_get, Option, Some, None, Result, Ok, Err, refl, sym, ap, subst, IfOk, IfErr, option_map_or, get_or_from_slice_get, Close, ObjectId, Refusal, NotOpen, Busy, NestFull, NoActor, NoPlace, count_of, greatest_count, fresh, is_online, cookie_for, items_of, SyncCore, Told, WorkerCore, Telling, asked_with, is_finished, turned, told_of, Change, Answer, Events, Quiet, Wait, Blocked, Line, Reader, Updater, Worker, ReaderVerb, UpdaterVerb, WorkerVerb, QueueState, ReaderState, ReaderStep, Barrier, Note, Check, GraceState, Holder, Publishing, UpdaterPlace, Idle, Publishes, Syncs, Retires, Bars, UpdaterState, WorkerState, new_worker, empty_queue_state, section_of, is_open_in, quietly, telling, with_word, closed, stores, touch_row, Plans, BoardView, idle}
 use Rattle.gp_memb.specs.declared.plan.Turn.TheVariants as turns
 use Rattle.call_rcu_worker.specs.declared.sync.SyncCore.TheVariants as core
 use Rattle.call_rcu_worker.specs.declared.sync.Told.TheVariants as what
@@ -21,21 +21,22 @@ use Rattle.world.specs.Queues.{queue_of, may_retire, lock_row as queue_lock_row,
 use Rattle.world.specs.Refusals.{IsOfVerb}
 use Rattle.world.specs.Row.{Test, refused_if, stalled_if, first_failing, refusal_of}
 use Rattle.world.specs.Standing.{outside, by_section, by_cookie, by_operation, refusal_in, standing_refusal, MeetsStanding}
-use Rattle.world.specs.Steps.{WorldView, OfMemb, OfQsbr, memb_plans, qsbr_plans, IsPrompt, IsStalled}
+use Rattle.world.specs.Steps.{WorldView, OfMemb, OfQsbr, memb_plans, qsbr_plans, IsPrompt}
 use Rattle.world.specs.Tests.{exact, tests_of, MeetsTests}
 use Rattle.world.specs.Workers.{is_none_left, first_in, take_row, run_row, worker_on, work_change, ask_for, is_resting}
 use Rattle.world.proofs.Checks.{past}
+use Rattle.world.proofs.Rows.{by_option}
 
 -- what the first test that fails says: a refusal by where the actor stands, or whether a lock is held
 abbrev Tells : Option Refusal → Bool → Option (Result Answer Refusal) → Type 0
 Tells (Some e) locked first = first ≡ Some (Err e)
 Tells None locked None = locked ≡ false
-Tells None locked (Some (Ok answer)) = IsBlockedIf locked answer × IsStalled answer
+Tells None locked (Some (Ok answer)) = IsBlockedIf locked answer
 Tells None locked (Some (Err e)) = IsOfVerb e
 
 -- no test speaks of either
 abbrev Plain : Result Answer Refusal → Type 0
-Plain (Ok answer) = (answer ≢ Blocked) × IsStalled answer
+Plain (Ok answer) = answer ≢ Blocked
 Plain (Err e) = IsOfVerb e
 
 abbrev ArePlain : List Test → Type 0
@@ -55,7 +56,7 @@ plain (t ∷ ts) each = by t.fails (plain ts each.1)
     by false rest = rest
 
 waits : Plain (Ok Wait)
-waits = (λ e. let no : Wait ≡ Blocked = e in cc, tt)
+waits e = let no : Wait ≡ Blocked = e in cc
 
 -- a verb begins an operation, and `.` goes on with one
 begins : (busy : Bool) (rests : Option Refusal) (locked : Bool) (tests : List Test) → Tells rests locked (first_failing tests) → Tells (by_operation false busy rests) locked (first_failing (operation_test false busy ∷ tests))
@@ -68,7 +69,7 @@ continues false rests locked tests h = refl
 
 -- a lock that has to be free
 locks : (held : Bool) (tests : List Test) → ArePlain tests → Tells None held (first_failing (stalled_if held Blocked ∷ tests))
-locks true tests each = (refl, tt)
+locks true tests each = refl
 locks false tests each = plain tests each
 
 in_section : (is_open : Bool) (tests : List Test) → ArePlain tests → Tells (outside is_open) false (first_failing (refused_if (not is_open) NotOpen ∷ tests))
@@ -78,22 +79,6 @@ in_section false tests each = refl
 -- ---- readers
 
 module _ {P : Type 0} (w : BoardView P) (r : ℕ) (v : ReaderState) where
-  firsts : (c : ℕ) (head : Option (Option ObjectId)) → ArePlain (first_row r v c head).tests
-  firsts c None = (tt, tt)
-  firsts c (Some head) = tt
-
-  nexts : (from : Option ObjectId) → ArePlain (next_from w r v from).tests
-  nexts None = (tt, tt)
-  nexts (Some o) = by (slice_get w.objects o.0)
-    where
-      by : (x : Option ObjectState) → ArePlain (next_row r v o x).tests
-      by None = tt
-      by (Some x) = tt
-
-  touches : (from : Option ObjectId) → ArePlain (refusal_of (touch_row r v from))
-  touches None = (tt, tt)
-  touches (Some o) = tt
-
   abbrev copied : ReaderStep
   copied = quietly (record v { copy = Some w.grace.word })
 
@@ -106,14 +91,6 @@ module _ {P : Type 0} (w : BoardView P) (r : ℕ) (v : ReaderState) where
   enters false true = tt
   enters false false = refl
 
-  leaves : (none : Bool) → Tells (outside (not none)) false (first_failing (refusal_of (stores left_with (cond none (Err NotOpen) (Ok (v.word - 1))))))
-  leaves true = refl
-  leaves false = refl
-
-  goes_online : (is_open : Bool) → Tells (cond is_open (Some Busy) None) false (first_failing (refusal_of (cond is_open (Err Busy) (Ok copied))))
-  goes_online true = refl
-  goes_online false = refl
-
   announces : (is_open : Bool) (step : ReaderStep) → Tells (outside is_open) false (first_failing (refusal_of (cond is_open (Ok step) (Err NotOpen))))
   announces true step = refl
   announces false step = refl
@@ -123,16 +100,17 @@ module _ {P : Type 0} (w : BoardView P) (r : ℕ) (v : ReaderState) where
   verb_tells true reader.Lock = refl
   verb_tells false reader.Lock = enters (count_of w.layout v.word == 0) (count_of w.layout v.word == greatest_count w.layout)
   verb_tells true reader.Unlock = refl
-  verb_tells false reader.Unlock = leaves (count_of w.layout v.word == 0)
-  verb_tells true reader.Online = goes_online (is_online v.word)
+  verb_tells false reader.Unlock = elim (count_of w.layout v.word == 0) as (λ none. Tells (outside (not none)) false (first_failing (refusal_of (stores left_with (cond none (Err NotOpen) (Ok (v.word - 1))))))) [ true ↦ refl | false ↦ refl ]
+  verb_tells true reader.Online = elim (is_online v.word) as (λ is_open. Tells (cond is_open (Some Busy) None) false (first_failing (refusal_of (cond is_open (Err Busy) (Ok copied))))) [ true ↦ refl | false ↦ refl ]
   verb_tells false reader.Online = refl
   verb_tells true reader.Quiescent = announces (is_online v.word) copied
   verb_tells false reader.Quiescent = refl
   verb_tells true reader.Offline = announces (is_online v.word) (telling (Close (section_of r v.ordinal)) (closed v 0))
   verb_tells false reader.Offline = refl
-  verb_tells qsbr (reader.First c) = in_section (is_open_in qsbr w.layout v.word) (first_row r v c (slice_get w.heads c)).tests (firsts c (slice_get w.heads c))
-  verb_tells qsbr reader.Next = in_section (is_open_in qsbr w.layout v.word) (next_from w r v v.cursor).tests (nexts v.cursor)
-  verb_tells qsbr reader.Touch = in_section (is_open_in qsbr w.layout v.word) (refusal_of (touch_row r v v.cursor)) (touches v.cursor)
+  verb_tells qsbr (reader.First c) = in_section (is_open_in qsbr w.layout v.word) (first_row r v c (slice_get w.heads c)).tests (elim (slice_get w.heads c) as (λ head. ArePlain (first_row r v c head).tests) [ None ↦ (tt, tt) | Some head ↦ tt ])
+  verb_tells qsbr reader.Next = in_section (is_open_in qsbr w.layout v.word) (next_from w r v v.cursor).tests
+      (elim v.cursor as (λ from. ArePlain (next_from w r v from).tests) [ None ↦ (tt, tt) | Some o ↦ elim (slice_get w.objects o.0) as (λ x. ArePlain (next_row r v o x).tests) [ None ↦ tt | Some x ↦ tt ] ])
+  verb_tells qsbr reader.Touch = in_section (is_open_in qsbr w.layout v.word) (refusal_of (touch_row r v v.cursor)) (elim v.cursor as (λ from. ArePlain (refusal_of (touch_row r v from))) [ None ↦ (tt, tt) | Some o ↦ tt ])
   verb_tells qsbr reader.GoOn = refl
 
   reads : (qsbr : Bool) (verb : ReaderVerb) → Tells (by_operation (reads_on verb) (is_some v.copy) (by_section qsbr (is_open_in qsbr w.layout v.word) verb)) false (first_failing (reader_line qsbr w r v verb).tests)
@@ -160,11 +138,7 @@ module _ {P : Type 0} (plans : Plans P) (w : BoardView P) where
   fine_told : (sync : SyncCore P) (loaded : ℕ) → Fine (told_of plans.action plans.turn plans.taken sync loaded)
   fine_told core.Asks loaded = fine_ask (cookie_for loaded) (fine_cookie loaded)
   fine_told (core.Checks c) loaded = either (nat_le c loaded) _ _ tt tt
-  fine_told (core.Runs c p) loaded = by (plans.turn p loaded)
-    where
-      by : (turn : Turn) → Fine (turned plans.action c p (plans.taken p loaded) turn)
-      by turns.Wait = tt
-      by turns.Step = either (is_finished (plans.action (plans.taken p loaded))) _ _ tt tt
+  fine_told (core.Runs c p) loaded = elim (plans.turn p loaded) as (λ turn. Fine (turned plans.action c p (plans.taken p loaded) turn)) [ turns.Wait ↦ tt | turns.Step ↦ either (is_finished (plans.action (plans.taken p loaded))) _ _ tt tt ]
   fine_told _ loaded = tt
 
   -- a step that takes no lock
@@ -182,7 +156,7 @@ module _ {P : Type 0} (plans : Plans P) (w : BoardView P) where
     where
       by : (held : Option Holder) → Tells None (true && is_some held) (first_failing (sync_row change (done_with plans w ask (core.Waits c) (lock_effect w me held))).tests)
       by None = refl
-      by (Some other) = (refl, tt)
+      by (Some other) = refl
   tells_sync change me ask (core.Checks c) = tells_step change w.grace ask (told_of plans.action plans.turn plans.taken (core.Checks c) w.grace.seq) (fine_told (core.Checks c) w.grace.seq)
   tells_sync change me ask (core.Starts c) =
       let p : P = plan_now plans w in
@@ -199,39 +173,15 @@ module _ {P : Type 0} (plans : Plans P) (w : BoardView P) where
 
   module _ (u : ℕ) (x : UpdaterState P) where
     publishes : (what : Publishing) → Tells None false (first_failing (published w u x what).tests)
-    publishes (publishing.Push new) = by (slice_get w.objects new.0)
-      where
-        by : (y : Option ObjectState) → Tells None false (first_failing (pushed_row u (record x { place = Idle }) new y).tests)
-        by None = refl
-        by (Some y) = refl
-    publishes (publishing.Replace old new) = by (slice_get w.objects old.0)
-      where
-        by : (y : Option ObjectState) → Tells None false (first_failing (replaced_row u (record x { place = Idle }) old new y).tests)
-        by None = refl
-        by (Some y) = refl
-
-    bars : (b : Barrier) (step : BarrierStep) → ArePlain (barrier_on w u x b step).tests
-    bars b (Note q) = tt
-    bars b (Check q) = (waits, tt)
+    publishes (publishing.Push new) = elim (slice_get w.objects new.0) as (λ y. Tells None false (first_failing (pushed_row u (record x { place = Idle }) new y).tests)) [ None ↦ refl | Some y ↦ refl ]
+    publishes (publishing.Replace old new) = elim (slice_get w.objects old.0) as (λ y. Tells None false (first_failing (replaced_row u (record x { place = Idle }) old new y).tests)) [ None ↦ refl | Some y ↦ refl ]
 
     goes_on : (place : UpdaterPlace P) → Tells None (place_is_to_lock place && is_some w.grace.holder) (first_failing (updater_on plans w u x place).tests)
     goes_on Idle = refl
     goes_on (Publishes what) = publishes what
     goes_on (Syncs ask sync) = tells_sync (grace_change plans u x ask) (holder.Updater u) ask sync
     goes_on (Retires o due) = refl
-    goes_on (Bars b) = plain (barrier_on w u x b b.due).tests (bars b b.due)
-
-    pushes : (c : ℕ) (head : Option (Option ObjectId)) → ArePlain (push_row w u x c head).tests
-    pushes c None = (tt, tt)
-    pushes c (Some head) = (tt, tt)
-
-    replaces : (o : ObjectId) (y : Option ObjectState) → ArePlain (replace_row w u x o y).tests
-    replaces o None = (tt, tt)
-    replaces o (Some y) = tt
-
-    cuts : (o : ObjectId) (y : Option ObjectState) → ArePlain (cut_row u x o y).tests
-    cuts o None = (tt, tt)
-    cuts o (Some y) = tt
+    goes_on (Bars b) = plain (barrier_on w u x b b.due).tests (elim b.due as (λ step. ArePlain (barrier_on w u x b step).tests) [ Note q ↦ tt | Check q ↦ (waits, tt) ])
 
     retires : (o : ObjectId) (may : Bool) (q : Option QueueState) → slice_get w.queues (queue_of w u) ≡ q → Tells None (may && is_some (lock_of w (queue_of w u))) (first_failing (refused_if (not may) NoPlace ∷ (queue_lock_row w u x o q).tests))
     retires o false q is = tt
@@ -240,26 +190,19 @@ module _ {P : Type 0} (plans : Plans P) (w : BoardView P) where
         subst (λ (z : QueueState). Tells None (is_some z.holder) (first_failing (queue_lock_row w u x o (Some q)).tests)) (sym (get_or_from_slice_get w.queues (queue_of w u) q empty_queue_state is))
         (locks (is_some q.holder) [] tt)
 
-    starts : (cookie : Result ℕ Refusal) → Fine cookie → ArePlain (start_row w u x cookie).tests
-    starts (Ok c) h = tt
-    starts (Err e) h = (h, tt)
-
-    polls : (s : Option Started) → Tells (by_cookie updater.Poll s) false (first_failing (poll_row w u x s).tests)
-    polls None = refl
-    polls (Some s) = plain (poll_row w u x (Some s)).tests (waits, tt)
-
     abbrev busy : Bool
     busy = not (is_idle x.place)
 
     -- a verb, by its tests
     verb_updates : slice_get w.updaters u ≡ Some x → (verb : UpdaterVerb) → Tells (by_cookie verb x.started) (needs_held_lock w (Updater u verb)) (first_failing (updater_verb plans w u x verb).tests)
-    verb_updates there (updater.Push c) = plain (push_row w u x c (slice_get w.heads c)).tests (pushes c (slice_get w.heads c))
-    verb_updates there (updater.Replace o) = plain (replace_row w u x o (linked_by w u (slice_get w.objects o.0))).tests (replaces o (linked_by w u (slice_get w.objects o.0)))
-    verb_updates there (updater.Cut o) = plain (cut_row u x o (linked_by w u (slice_get w.objects o.0))).tests (cuts o (linked_by w u (slice_get w.objects o.0)))
+    verb_updates there (updater.Push c) = plain (push_row w u x c (slice_get w.heads c)).tests (elim (slice_get w.heads c) as (λ head. ArePlain (push_row w u x c head).tests) [ None ↦ (tt, tt) | Some head ↦ (tt, tt) ])
+    verb_updates there (updater.Replace o) = plain (replace_row w u x o (linked_by w u (slice_get w.objects o.0))).tests (elim (linked_by w u (slice_get w.objects o.0)) as (λ y. ArePlain (replace_row w u x o y).tests) [ None ↦ (tt, tt) | Some y ↦ tt ])
+    verb_updates there (updater.Cut o) = plain (cut_row u x o (linked_by w u (slice_get w.objects o.0))).tests (elim (linked_by w u (slice_get w.objects o.0)) as (λ y. ArePlain (cut_row u x o y).tests) [ None ↦ (tt, tt) | Some y ↦ tt ])
     verb_updates there (updater.Retire o) = retires o (may_retire w u (slice_get w.objects o.0)) (slice_get w.queues (queue_of w u)) refl
     verb_updates there updater.Sync = tells_sync (grace_change plans u x (w.grace.asks + 1)) (holder.Updater u) (w.grace.asks + 1) core.Asks
-    verb_updates there updater.Start = plain (start_row w u x (cookie_for w.grace.seq)).tests (starts (cookie_for w.grace.seq) (fine_cookie w.grace.seq))
-    verb_updates there updater.Poll = polls x.started
+    verb_updates there updater.Start = plain (start_row w u x (cookie_for w.grace.seq)).tests
+        ((elim (cookie_for w.grace.seq) as (λ cookie. Fine cookie → ArePlain (start_row w u x cookie).tests) [ Ok c ↦ λ h. tt | Err e ↦ λ h. (h, tt) ]) (fine_cookie w.grace.seq))
+    verb_updates there updater.Poll = elim x.started as (λ s. Tells (by_cookie updater.Poll s) false (first_failing (poll_row w u x s).tests)) [ None ↦ refl | Some s ↦ plain (poll_row w u x (Some s)).tests (waits, tt) ]
     verb_updates there updater.Barrier = refl
     verb_updates there updater.GoOn =
         subst (λ (y : UpdaterState P). Tells None (place_is_to_lock y.place && is_some w.grace.holder) (first_failing (updater_on plans w u x x.place).tests)) (sym (get_or_from_slice_get w.updaters u x idle there)) (goes_on x.place)
@@ -277,15 +220,11 @@ module _ {P : Type 0} (plans : Plans P) (w : BoardView P) where
     takes None is = ap (λ (q : QueueState). is_some q.holder) (past w.queues k empty_queue_state is)
     takes (Some q) is =
         subst (λ (z : QueueState). Tells None (is_some z.holder) (first_failing (take_row w k x (Some q)).tests)) (sym (get_or_from_slice_get w.queues k q empty_queue_state is))
-        (locks (is_some q.holder) (stalled_if (is_none_left (items_of q.items)) NothingThere ∷ []) ((λ e. let no : NothingThere ≡ Blocked = e in cc, tt), tt))
-
-    runs : (tickets : Tickets) (first : Option (Ticket × ObjectId)) → Tells None false (first_failing (run_row w k x tickets first).tests)
-    runs tickets None = refl
-    runs tickets (Some first) = refl
+        (locks (is_some q.holder) (stalled_if (is_none_left (items_of q.items)) NothingThere ∷ []) ((λ e. let no : NothingThere ≡ Blocked = e in cc), tt))
 
     works_at : (place : WorkerCore P Unit) → Tells None (core_is_to_lock place && is_some w.grace.holder) (first_failing (worker_on plans w k x place).tests)
     works_at (works.Syncs sync tickets) = tells_sync (work_change k (ask_for w x.ask sync) tickets) (holder.Worker k) (ask_for w x.ask sync) sync
-    works_at (works.Pops tickets) = runs tickets (first_in (slice_get w.queues k))
+    works_at (works.Pops tickets) = elim (first_in (slice_get w.queues k)) as (λ first. Tells None false (first_failing (run_row w k x tickets first).tests)) [ None ↦ refl | Some first ↦ refl ]
     works_at _ = refl
 
     verb_works : slice_get w.workers k ≡ Some x → (verb : WorkerVerb) → Tells None (needs_held_lock w (Worker k verb)) (first_failing (worker_verb plans w k x verb).tests)
@@ -299,38 +238,16 @@ module _ {P : Type 0} (plans : Plans P) (w : BoardView P) where
 
   -- ---- a line of an actor, if there is such an actor
 
-  of_readers : (r : ℕ) (verb : ReaderVerb) (x : Option ReaderState) →
-      Tells (cond (is_some x) (by_operation (reads_on verb) (option_map_or (λ v. is_some v.copy) x false) (option_map_or (λ v. by_section plans.qsbr (is_open_in plans.qsbr w.layout v.word) verb) x None)) (Some NoActor))
-      false (first_failing (of_reader {P = P} plans.qsbr w r verb x).tests)
-  of_readers r verb None = refl
-  of_readers r verb (Some v) = reads w r v plans.qsbr verb
-
-  of_updaters : (u : ℕ) (verb : UpdaterVerb) (x : Option (UpdaterState P)) → slice_get w.updaters u ≡ x →
-      Tells (cond (is_some x) (by_operation (updates_on verb) (option_map_or (λ y. not (is_idle y.place)) x false) (option_map_or (λ y. by_cookie verb y.started) x None)) (Some NoActor))
-      (needs_held_lock w (Updater u verb)) (first_failing (of_updater plans w u verb x).tests)
-  of_updaters u verb None is = refl
-  of_updaters u verb (Some x) is = updates u x is verb
-
-  of_workers : (k : ℕ) (verb : WorkerVerb) (x : Option (WorkerState P)) → slice_get w.workers k ≡ x →
-      Tells (cond (is_some x) (by_operation (works_on verb) (option_map_or (λ y. not (is_resting y.core)) x false) None) (Some NoActor))
-      (needs_held_lock w (Worker k verb)) (first_failing (of_worker plans w k verb x).tests)
-  of_workers k verb None is = refl
-  of_workers k verb (Some x) is = does k x is verb
-
   tells : (line : Line) → Tells (refusal_in plans.qsbr w line) (needs_held_lock w line) (first_failing (row_of plans w line).tests)
-  tells (Reader r verb) = of_readers r verb (slice_get w.readers r)
-  tells (Updater u verb) = of_updaters u verb (slice_get w.updaters u) refl
-  tells (Worker k verb) = of_workers k verb (slice_get w.workers k) refl
-
-  -- so the first test that fails refuses or stalls
-  stalls : (standing : Option Refusal) (locked : Bool) (first : Option (Result Answer Refusal)) → Tells standing locked first → IfSome first (λ answer. IfOk answer IsStalled)
-  stalls (Some e) locked first h = subst (λ (f : Option (Result Answer Refusal)). IfSome f (λ answer. IfOk answer IsStalled)) (sym h) tt
-  stalls None locked None h = tt
-  stalls None locked (Some (Ok answer)) h = h.1
-  stalls None locked (Some (Err e)) h = tt
-
-  pub first_stalls : (line : Line) → IfSome (first_failing (row_of plans w line).tests) (λ answer. IfOk answer IsStalled)
-  first_stalls line = stalls (refusal_in plans.qsbr w line) (needs_held_lock w line) (first_failing (row_of plans w line).tests) (tells line)
+  tells (Reader r verb) = elim (slice_get w.readers r) as (λ x.
+      Tells (cond (is_some x) (by_operation (reads_on verb) (option_map_or (λ v. is_some v.copy) x false) (option_map_or (λ v. by_section plans.qsbr (is_open_in plans.qsbr w.layout v.word) verb) x None)) (Some NoActor))
+      false (first_failing (of_reader {P = P} plans.qsbr w r verb x).tests)) [ None ↦ refl | Some v ↦ reads w r v plans.qsbr verb ]
+  tells (Updater u verb) = by_option (λ x.
+      Tells (cond (is_some x) (by_operation (updates_on verb) (option_map_or (λ y. not (is_idle y.place)) x false) (option_map_or (λ y. by_cookie verb y.started) x None)) (Some NoActor))
+      (needs_held_lock w (Updater u verb)) (first_failing (of_updater plans w u verb x).tests)) (slice_get w.updaters u) (λ is. refl) (λ x is. updates u x is verb)
+  tells (Worker k verb) = by_option (λ x.
+      Tells (cond (is_some x) (by_operation (works_on verb) (option_map_or (λ y. not (is_resting y.core)) x false) None) (Some NoActor))
+      (needs_held_lock w (Worker k verb)) (first_failing (of_worker plans w k verb x).tests)) (slice_get w.workers k) (λ is. refl) (λ x is. does k x is verb)
 
 -- ---- as the tests of a step say it
 
@@ -355,7 +272,7 @@ module _ (old new : WorldView) (line : Line) where
   blocks (Some e) locked first result h meets = subst (λ (r : Result Answer Refusal). IfOk r (IsBlockedIf locked)) (sym (subst (λ (f : Option (Result Answer Refusal)). MeetsTests f old new result) h meets).0) tt
   blocks None locked None (Ok answer) h meets = subst (λ (b : Bool). IsBlockedIf b answer) (sym h) (prompt_free answer meets.0)
   blocks None locked None (Err e) h meets = tt
-  blocks None locked (Some (Ok answer)) result h meets = subst (λ (r : Result Answer Refusal). IfOk r (IsBlockedIf locked)) (sym meets.0) h.0
+  blocks None locked (Some (Ok answer)) result h meets = subst (λ (r : Result Answer Refusal). IfOk r (IsBlockedIf locked)) (sym meets.0) h
   blocks None locked (Some (Err e)) result h meets = subst (λ (r : Result Answer Refusal). IfOk r (IsBlockedIf locked)) (sym meets.0) tt
 
   pub meets_standing : (result : Result Answer Refusal) → MeetsTests (first_failing (tests_of old line)) old new result → MeetsStanding (standing_refusal old line) result

@@ -4,8 +4,7 @@ use Rattle.call_rcu_worker.specs.declared.sync.SyncCore.TheVariants as core
 use Rattle.world_state.specs.declared.updater.Holder.TheVariants as holder
 use Rattle.world_state.specs.declared.change.Change.TheVariants.{Retire, Work as Works}
 use Rattle.call_rcu_worker.specs.declared.worker.WorkerCore.TheVariants as worker
-use Rattle.world.proofs.Fence.{Work, Rests, Waits, Checks, Starts, Runs, Frees, Laws, Sets}
-use Rattle.world.proofs.Periods.{Part, Marks}
+use Rattle.world.proofs.Fence.{Work, Rests, Waits, Checks, Starts, Runs, Frees, Laws, Sets, Part, Marks}
 
 -- who may ask: an updater by `sync`, an updater by `start`, a worker
 pub data Asker : Type 0 where
@@ -64,7 +63,7 @@ abbrev pub word_at : List ReaderState → ℕ → ℕ
 word_at readers r = (reader_at readers r).word
 
 -- one of a list is set, and what holds of each still holds
-at_each : {X : Type 0} (d : X) (F : ℕ → X → Type 0) (xs : List X) (u : ℕ) (x : X) → u < length xs → F u x → ((v : ℕ) → v ≢ u → F v (get_or xs v d)) → (v : ℕ) → F v (get_or (slice_set xs u x) v d)
+pub at_each : {X : Type 0} (d : X) (F : ℕ → X → Type 0) (xs : List X) (u : ℕ) (x : X) → u < length xs → F u x → ((v : ℕ) → v ≢ u → F v (get_or xs v d)) → (v : ℕ) → F v (get_or (slice_set xs u x) v d)
 at_each d F xs u x inside mine others v = by (decide_number v u)
   where
     by : (v ≡ u) ⊎ (v ≢ u) → F v (get_or (slice_set xs u x) v d)

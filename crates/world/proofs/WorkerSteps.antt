@@ -1,22 +1,25 @@
 -- What the lines of workers keep, and that what they tell may come.
-use Rattle.world.proofs.Cited.{nil_from_length, ◌≡◌, ◌≢◌, ◌⊎◌, ⊎_elim, ℕ, true≢false, inl, inr, ◌+◌, ◌%◌, ◌<◌, ◌≤◌, ltb, false, List, [], ◌∷◌, ◌++◌, length, slice_get, slice_set, Option, Some, None, Result, Ok, refl, sym, ap, ◌∙◌, subst, arith, length-set, lt-ltb, ltb-true, ltb-false, cond-true, cond_both, none-some, same_Some, slice_get_within, slice_get-get_or, get_or_from_slice_get, Event, ObjectId, SectionId, Refusal, without_object, State, In, has_object_in, in_objects, without_object_has, decide, Layout, Item, Ticket, items_of, given_of, sealed, popped, without_first, object_with, SyncCore, Tickets, WorkerCore, new_core, after_take, tickets_from, rest_of, item_done, Quiet, Life, Mark, ObjectState, QueueAct, QueueState, WorkerState, Change, marked_life, new_worker, empty_queue_state, item_of, acted, changed_at, acted_at, Plans, BoardView, chain_of, life_of, life_within, life_marked, life_else, Items, Has, Stands, InQueue, queue_at, stands_above, changed_here, changed_else, changed_length, items_sealed}
-use Rattle.rcu_model.specs.declared.event.Event.TheVariants as events
+use Rattle.world.proofs.Cited.{synced, nil_from_length, ◌≡◌, ◌≢◌, ◌⊎◌, ⊎_elim, ℕ, true≢false, inl, inr, ◌+◌, ◌%◌, ◌<◌, ◌≤◌, ltb, false, List, [], ◌∷◌, ◌++◌, length, slice_get, slice_set, Option, Some, None, Result, Ok, refl, sym, ap, ◌∙◌, subst, arith, length-set, lt-ltb, ltb-true, ltb-false, cond-true, cond_both, none-some, same_Some, slice_get_within, slice_get-get_or, get_or_from_slice_get, Event, ObjectId, SectionId, Refusal, without_object, State, In, has_object_in, in_objects, without_object_has, decide, Layout, Item, Ticket, items_of, given_of, sealed, popped, without_first, object_with, SyncCore, Tickets, WorkerCore, new_core, after_take, tickets_from, rest_of, item_done, Quiet, Life, Mark, ObjectState, QueueAct, QueueState, WorkerState, Change, marked_life, new_worker, empty_queue_state, item_of, acted, changed_at, acted_at, Plans, BoardView, chain_of, life_of, life_within, life_marked, life_else, Items, Has, Stands, InQueue, queue_at, stands_above, changed_here, changed_else, changed_length, items_sealed, cond, le-leb, after as next_state, empty_from, at_number_same, is_due, after_advance, Answer, GraceState, has_either, items_advanced, changed, IsAllowed, after_all, AreAllowed, told, leb-true}
 use Rattle.callback_queue.specs.Queue.{Queue}
+use Rattle.world_state.specs.declared.change.Change.TheVariants.{Work as Works}
+use Rattle.world.specs.Answers.{one}
+use Rattle.world.specs.Workers.{first_fresh, with_core, is_none_left, first_in, ask_for, work_change, worker_act}
+use Rattle.world.proofs.Fence.{Work, Rests, Frees, Laws, Waits, Checks, Sets}
+use Rattle.world.proofs.State.{Asker, Working, core_work, worker_work, worker_at, work_of, updater_at, Kept, at_workers}
+use Rattle.world.proofs.KeptReaders.{longer}
+use Rattle.world.proofs.Callbacks.{its_queue, Found, LifeKept, RetireKept, ItemsKept, QueueKept, BatchWaits, BatchKept, WorkKept, WorkAt, CallbacksKept, Callbacks, at_queues, queue_kept, sizes_over, numbers_over, over_event, found_over, retire_marked, retire_through, bar_over, stays, items_stay, OwesAll}
+use Rattle.world.proofs.KeptPublishing.{kept_worker, beside, kept_work, worker_set}
+use Rattle.world.proofs.Retirements.{more_reclaimed, lives_marked}
+use Rattle.world.specs.declared.grace.GraceStep.{GraceStep}
+use Rattle.world.specs.Grace.{is_blocked, is_waiting, grace_row}
+use Rattle.world.proofs.Asking.{begun_goes, StepKept, IsDue, reached_none, kept_turn, asks_alone, ends}
+use Rattle.rcu_model.specs.declared.event.Event.TheVariants as events
 use Rattle.call_rcu_worker.specs.declared.sync.SyncCore.TheVariants as core
 use Rattle.call_rcu_worker.specs.declared.worker.WorkerCore.TheVariants as worker
 use Rattle.world_state.specs.declared.object.Life.TheVariants as life
 use Rattle.world_state.specs.declared.queue.QueueAct.TheVariants as act
-use Rattle.world_state.specs.declared.change.Change.TheVariants.{Work as Works}
-use Rattle.world.specs.Answers.{one}
-use Rattle.world.specs.Workers.{first_fresh, with_core, is_none_left, first_in}
-use Rattle.world.proofs.Fence.{Work, Rests, Frees, Pending, Laws}
-use Rattle.world.proofs.State.{Asker, Working, core_work, worker_work, worker_at, work_of, updater_at, Kept, at_workers}
-use Rattle.world.proofs.KeptReaders.{longer}
-use Rattle.world.proofs.Callbacks.{its_queue, Found, LifeKept, RetireKept, ItemsKept, QueueKept, BatchWaits, BatchKept, WorkKept, WorkAt, CallbacksKept, Callbacks, at_queues, queue_kept, sizes_over, numbers_over}
-use Rattle.world.proofs.QueueChanges.{found_over, retire_marked, retire_through, bar_over, stays, items_stay}
-use Rattle.world.proofs.Plain.{OwesAll}
-use Rattle.world.proofs.Beside.{kept_worker, beside}
-use Rattle.world.proofs.Retirements.{more_reclaimed, lives_marked}
+use Rattle.world_state.specs.declared.updater.Holder.TheVariants as holder
+use Rattle.world.proofs.GraceRows.{Finding, TurnRow, Asking, Blocking, Standing, Locking, Finding, turn_of, Needing, Going, Begins, GoesOn, Ending, Freeing, Resting, effect}
 
 -- where nothing is ready and nothing waits, all items are fresh
 pub all_fresh : (i : Queue (Item Unit)) → i.ready ≡ [] → i.waiting ≡ [] → items_of i ≡ i.fresh
@@ -25,33 +28,6 @@ all_fresh i none_ready none_waiting = ap (λ (l : Items). l ++ i.waiting ++ i.fr
 pub some_left : (l : Items) → is_none_left l ≡ false → 1 ≤ length l
 some_left [] e = absurd (true≢false e)
 some_left (i ∷ l) e = omega arith
-
-same_batch : (ready waiting : Items) (noted : Option ℕ) (asked : List ℕ) (awaited : ObjectId → List SectionId) (asked_sections : ℕ → List SectionId) (ask tickets c a d : ℕ) →
-    BatchWaits ready waiting noted asked awaited asked_sections ask tickets c → (ask ≡ a) × (c ≡ d) → BatchWaits ready waiting noted asked awaited asked_sections a tickets d
-same_batch ready waiting noted asked awaited asked_sections ask tickets c a d b e =
-    subst (λ n. BatchWaits ready waiting noted asked awaited asked_sections n tickets d) e.0 (subst (λ n. BatchWaits ready waiting noted asked awaited asked_sections ask tickets n) e.1 b)
-
--- what a batch that waits for its ask keeps, by where the ask stands
-module _ {P : Type 0} (ready waiting : Items) (noted : Option ℕ) (asked : List ℕ) (awaited : ObjectId → List SectionId) (asked_sections : ℕ → List SectionId) (ask tickets : ℕ) where
-  abbrev BatchAt : SyncCore P → Type 0
-  BatchAt place = BatchKept ready waiting noted asked awaited asked_sections ask tickets place
-
-  pub waits_of : (place : SyncCore P) (a c : ℕ) → BatchAt place → Pending (core_work ask place) a c → BatchWaits ready waiting noted asked awaited asked_sections a tickets c
-  waits_of (core.Waits d) a c b h = same_batch ready waiting noted asked awaited asked_sections ask tickets d a c b h
-  waits_of (core.Checks d) a c b h = same_batch ready waiting noted asked awaited asked_sections ask tickets d a c b h
-  waits_of (core.Starts d) a c b h = same_batch ready waiting noted asked awaited asked_sections ask tickets d a c b h
-  waits_of (core.Runs d p) a c b h = same_batch ready waiting noted asked awaited asked_sections ask tickets d a c b h
-  waits_of _ a c b h = absurd h
-
-  pub freed_of : (place : SyncCore P) → BatchAt place → core_work ask place ≡ Frees → (waiting ≡ []) × (tickets ≡ length ready) × (1 ≤ tickets)
-  freed_of core.Frees b h = b
-  freed_of core.Done b h = absurd b
-  freed_of _ b h = absurd (cc)
-
-  pub asks_of : (place : SyncCore P) → BatchAt place → core_work ask place ≡ Rests → (ready ≡ []) × (tickets ≡ length waiting) × (1 ≤ tickets)
-  asks_of core.Asks b h = b
-  asks_of core.Done b h = absurd b
-  asks_of _ b h = absurd (cc)
 
 -- a step of a worker that leaves items and objects where they are
 module _ {P : Type 0} (w : BoardView P) (now : State) (k : Callbacks w now) (n : ℕ) (inside : n < length w.workers) where
@@ -317,15 +293,8 @@ module _ {P : Type 0} (plans : Plans P) (layout : Layout) (slots : ℕ) (laws : 
   -- and counted
   pub owes_count : (tickets : Tickets) (ticket : Ticket) (item : Item Unit) → x.core ≡ worker.Ran tickets ticket item → Owed (Ok (Works n (with_core x (item_done (worker.Counts tickets ticket))) w.grace act.Finish None Quiet))
   owes_count tickets ticket item ran = cond_both (ltb 1 tickets.left) (worker.Pops (rest_of tickets)) worker.Idle (λ (p : WorkerCore P Unit). Owed (Ok (Works n (with_core x p) w.grace act.Finish None Quiet)))
-      (λ e.
-      let some = ltb-true 1 tickets.left e in
-      let last = batch.3 in
-      let is' = batch.1 in
-      counts (worker.Pops (rest_of tickets)) refl (batch.0, omega (arith, is'), omega (arith, some), batch.2, omega (arith, last, some)))
-      (λ e.
-      let is' = batch.1 in
-      let low = ltb-false 1 tickets.left e in
-      counts worker.Idle refl (nil_from_length mine.items.ready (omega (arith, is', low)), batch.0, batch.2))
+      (λ e. let some = ltb-true 1 tickets.left e in counts (worker.Pops (rest_of tickets)) refl (batch.0, omega (arith, batch), omega (arith, some), batch.2, omega (arith, batch, some)))
+      (λ e. counts worker.Idle refl (nil_from_length mine.items.ready (omega (arith, batch, ltb-false 1 tickets.left e)), batch.0, batch.2))
     where
       batch : (mine.items.waiting ≡ []) × (tickets.left ≡ length mine.items.ready + 1) × (mine.finished + 1 ≡ mine.items.gone) × (tickets.last.0 + 1 ≡ mine.items.gone + tickets.left)
       batch = subst (λ (p : WorkerCore P Unit). WorkKept mine.items.ready mine.items.waiting mine.items.cookie mine.items.gone mine.finished now.asked now.awaited now.asked_sections x.ask p) ran my_work
@@ -334,3 +303,137 @@ module _ {P : Type 0} (plans : Plans P) (layout : Layout) (slots : ℕ) (laws : 
       counts p rests works' = still (with_core x p) act.Finish (ap (worker_work x.ask) ran) rests
           (quiet_step w now k n inside (acted act.Finish) (with_core x p) (length (w.log ++ [])) (longer w.log []) refl refl
           (record { is_open = (more_kept []).is_open; given_low = (more_kept []).given_low; announced = (more_kept []).announced; at_rest = (more_kept []).at_rest; ready_free = (more_kept []).ready_free }) refl refl refl works')
+
+  -- its batch, where its grace period stands there
+  abbrev BatchAt : Tickets → SyncCore P → Type 0
+  BatchAt tickets place = BatchKept mine.items.ready mine.items.waiting mine.items.cookie now.asked now.awaited now.asked_sections x.ask tickets.left place × (mine.finished ≡ mine.items.gone) × (tickets.last.0 ≡ mine.items.gone + tickets.left)
+
+  -- what is kept of callbacks behind a step of it
+  abbrev Calls : ℕ → Tickets → GraceStep P → Type 0
+  Calls ask tickets step = Callbacks (changed w (work_change n ask tickets step)) (after_all now (told step.answer))
+
+  -- nothing is told, and the queue stays
+  stays_calls : (ask : ℕ) (p : WorkerCore P Unit) → WorkAt mine now.asked now.awaited now.asked_sections (record { ask = ask; core = p }) →
+      CallbacksKept w.objects (acted_at queues n act.Leave) w.updaters (slice_set w.workers n (record { ask = ask; core = p })) w.barriers (length (w.log ++ []))
+      now.sections now.retired now.queued now.reclaimed now.awaited now.asked now.asked_sections now.noted now.cleared now.noted_objects
+  stays_calls ask p works' = quiet_step w now k n inside (acted act.Leave) (record { ask = ask; core = p }) (length (w.log ++ [])) (longer w.log []) refl refl (more_kept []) refl refl refl works'
+
+  -- an ask is told, and its cookie noted
+  asked_calls : (ask c : ℕ) (tickets : Tickets) (grace : GraceState) → IsAllowed now (events.Ask ask) → BatchAt tickets core.Asks → Calls ask tickets (record { core = core.Waits c; grace = grace; answer = one (events.Ask ask) })
+  asked_calls ask c tickets grace allowed batch =
+      quiet_step w (next_state now (events.Ask ask)) (over_event w now k (events.Ask ask) tt allowed) n inside (acted (act.Note c)) (record { ask = ask; core = worker.Syncs (core.Waits c) tickets }) (length (w.log ++ events.Ask ask ∷ [])) (longer w.log (events.Ask ask ∷ [])) refl refl
+      (record { is_open = q.is_open; given_low = q.given_low; announced = q.announced; at_rest = q.at_rest; ready_free = q.ready_free }) refl refl refl (
+        record {
+          none_ready = batch.0.0;
+          count = batch.0.1;
+          some = batch.0.2;
+          is_noted = refl;
+          was_asked = inl refl;
+          covered = λ o h t g. subst (λ (l : List SectionId). In l t) (sym (at_number_same ask now.sections now.asked_sections)) (k.awaits_open o t g);
+        },
+        batch.1,
+        batch.2,
+      )
+    where
+      q : QueueKept mine (length (w.log ++ events.Ask ask ∷ [])) now.awaited
+      q = more_kept (events.Ask ask ∷ [])
+
+  -- an answer is told, and the batch is ready
+  answered_calls : (c : ℕ) (tickets : Tickets) (grace : GraceState) → BatchAt tickets (core.Waits c) → c ≤ grace.seq → now.asked_sections x.ask ≡ [] → Calls x.ask tickets (record { core = core.Frees; grace = grace; answer = one (events.Answer x.ask) })
+  answered_calls c tickets grace batch up none =
+      quiet_step w now k n inside (acted (act.Advance grace.seq)) (record { ask = x.ask; core = worker.Syncs core.Frees tickets }) (length (w.log ++ events.Answer x.ask ∷ [])) (longer w.log (events.Answer x.ask ∷ []))
+      (field (λ r. r.gone)) (items_advanced mine.items grace.seq)
+      (record {
+        is_open = field (λ r. r.closed) ∙ q.is_open;
+        given_low = subst (λ m. m ≤ length (w.log ++ events.Answer x.ask ∷ [])) (sym given) q.given_low;
+        announced = subst (λ m. m ≤ mine.queued) (sym given) q.announced;
+        at_rest = λ e. q.at_rest e ∙ sym given;
+        ready_free = λ o h. free o (subst (λ (l : Items). Has l o) (field (λ r. r.ready)) h);
+      })
+      refl (field (λ r. r.reserved)) refl
+      ((field (λ r. r.waiting), b.count ∙ ap (λ (l : Items). length l) (sym ready_is), b.some), subst (λ m. mine.finished ≡ m) (sym (field (λ r. r.gone))) batch.1, subst (λ m. tickets.last.0 ≡ m + tickets.left) (sym (field (λ r. r.gone))) batch.2)
+    where
+      b : BatchWaits mine.items.ready mine.items.waiting mine.items.cookie now.asked now.awaited now.asked_sections x.ask tickets.left c
+      b = batch.0
+
+      q : QueueKept mine (length (w.log ++ events.Answer x.ask ∷ [])) now.awaited
+      q = more_kept (events.Answer x.ask ∷ [])
+
+      ripe : Queue (Item Unit)
+      ripe = record mine.items { ready = mine.items.ready ++ mine.items.waiting; waiting = []; cookie = None }
+
+      field : {X : Type 0} (g : Queue (Item Unit) → X) → g (after_advance mine.items grace.seq) ≡ g ripe
+      field g = ap g (ap (λ y. cond y ripe mine.items) (ap (λ (o : Option ℕ). is_due o grace.seq) b.is_noted ∙ (le-leb c grace.seq up)))
+
+      given : given_of (after_advance mine.items grace.seq) ≡ given_of mine.items
+      given = ap (λ m. m + length (items_of (after_advance mine.items grace.seq))) (field (λ r. r.gone)) ∙ ap (λ (l : Items). mine.items.gone + length l) (items_advanced mine.items grace.seq)
+
+      ready_is : (after_advance mine.items grace.seq).ready ≡ mine.items.waiting
+      ready_is = field (λ r. r.ready) ∙ ap (λ (l : Items). l ++ mine.items.waiting) b.none_ready
+
+      free : (o : ObjectId) → Has (mine.items.ready ++ mine.items.waiting) o → now.awaited o ≡ []
+      free o h = ⊎_elim
+          (λ (l : Has mine.items.ready o). q.ready_free o l)
+          (λ (r : Has mine.items.waiting o). empty_from (now.awaited o) (λ t g. subst (λ (l : List SectionId). In l t) none (b.covered o r t g)))
+          (has_either mine.items.ready mine.items.waiting o h)
+
+  calls : (place : SyncCore P) (step : GraceStep P) (tickets : Tickets) → TurnRow plans w (holder.Worker n) (ask_for w x.ask place) place (Ok step) → works (Working n) ≡ core_work (ask_for w x.ask place) place → BatchAt tickets place →
+      AreAllowed now (told step.answer) → is_blocked step.answer ≡ false → is_waiting step.answer ≡ false → Calls (ask_for w x.ask place) tickets step
+  calls _ _ tickets (Asking c fits) does batch allowed goes on = asked_calls (w.grace.asks + 1) c tickets (record w.grace { asks = w.grace.asks + 1 }) allowed.0 batch
+  calls _ _ tickets (Blocking c other held) does batch allowed goes on = absurd (true≢false goes)
+  calls _ _ tickets (Standing from c p takes) does batch allowed goes on = absurd (true≢false on)
+  calls _ _ tickets (Locking c free) does batch allowed goes on = stays_calls x.ask (worker.Syncs (core.Checks c) tickets) batch
+  calls _ _ tickets (Finding c up) does batch allowed goes on =
+      let reached = leb-true c w.grace.seq up in answered_calls c tickets w.grace batch reached (reached_none plans layout slots laws w now kept (Working n) (Checks x.ask c) x.ask c does (refl, refl) reached)
+  calls _ _ tickets (Needing c low) does batch allowed goes on = stays_calls x.ask (worker.Syncs (core.Starts c) tickets) batch
+  calls _ _ tickets (Going _ _ _ (Begins c) turn more) does batch allowed goes on = stays_calls x.ask (worker.Syncs (core.Runs c _) tickets) batch
+  calls _ _ tickets (Going _ _ _ (GoesOn c p) turn more) does batch allowed goes on = stays_calls x.ask (worker.Syncs (core.Runs c _) tickets) batch
+  calls _ _ tickets (Ending _ _ _ (Begins c) done) does batch allowed goes on = absurd (begun_goes plans layout slots laws w now kept (holder.Worker n) x.ask c does _ done)
+  calls _ _ tickets (Ending _ _ _ (GoesOn c p) done) does batch allowed goes on =
+      let e = ends plans layout slots laws w now kept (holder.Worker n) x.ask c p does done in answered_calls c tickets (effect plans w p).grace batch e.1 e.0
+  calls _ _ tickets Freeing does batch allowed goes on = stays_calls x.ask (worker.Pops tickets) (batch.0.0, batch.0.1, batch.0.2, batch.1, batch.2)
+  calls _ _ tickets Resting does batch allowed goes on = absurd batch.0
+
+  -- its ask is the next one, or the one that it made
+  asks_work : (place : SyncCore P) → core_work x.ask place ≡ core_work {P = P} (ask_for w x.ask place) place
+  asks_work core.Asks = refl
+  asks_work _ = refl
+
+  due_now : (place : SyncCore P) (tickets : Tickets) → BatchAt tickets place → IsDue plans layout slots laws w now kept (holder.Worker n) (ask_for w x.ask place) place
+  due_now core.Asks tickets batch = refl
+  due_now core.Done tickets batch = absurd batch.0
+  due_now _ tickets batch = tt
+
+  synced_work : (ask : ℕ) (place : SyncCore P) (tickets : Tickets) → worker_work {P = P} ask (synced place tickets) ≡ core_work ask place
+  synced_work ask core.Done tickets = refl
+  synced_work ask _ tickets = refl
+
+  -- a step of a worker's grace period that neither waits nor is blocked
+  pub owes_batch : (place : SyncCore P) (tickets : Tickets) (step : GraceStep P) → x.core ≡ worker.Syncs place tickets → grace_row plans w (holder.Worker n) (ask_for w x.ask place) place ≡ Ok step → is_blocked step.answer ≡ false → is_waiting step.answer ≡ false →
+      Owed (Ok (work_change n (ask_for w x.ask place) tickets step))
+  owes_batch place tickets step syncs made goes on = (
+    s.allowed,
+    subst (Kept plans layout slots laws (changed w (work_change n ask tickets step))) (sym (asks_alone plans layout slots laws w now kept (holder.Worker n) ask place step made)) (
+        kept_work plans layout slots laws w now kept n x' (acted_at queues n (worker_act step.grace.seq x'.core)) None step.grace (w.log ++ told step.answer) _ _ _ (longer w.log (told step.answer)) s.rises s.phase_low s.seq_low s.asks_low
+        (s.part _ (subst (λ (v : Work P). Sets works (work_of w.updaters (slice_set w.workers n x')) (Working n) v) (synced_work ask step.core tickets) (worker_set plans layout slots laws w now kept n x' inside)))
+        ),
+    calls place step tickets row stands batch s.allowed goes on,
+  )
+    where
+      ask : ℕ
+      ask = ask_for w x.ask place
+
+      x' : WorkerState P
+      x' = record { ask = ask; core = synced step.core tickets }
+
+      row : TurnRow plans w (holder.Worker n) ask place (Ok step)
+      row = turn_of plans w (holder.Worker n) ask place step made
+
+      batch : BatchAt tickets place
+      batch = subst (λ (p : WorkerCore P Unit). WorkKept mine.items.ready mine.items.waiting mine.items.cookie mine.items.gone mine.finished now.asked now.awaited now.asked_sections x.ask p) syncs my_work
+
+      stands : works (Working n) ≡ core_work ask place
+      stands = work_is ∙ ap (worker_work x.ask) syncs ∙ asks_work place
+
+      s : StepKept plans layout slots laws w now kept (Working n) (core_work ask step.core) step.grace step.answer
+      s = kept_turn plans layout slots laws w now kept (holder.Worker n) ask place step stands (due_now place tickets batch) row goes on

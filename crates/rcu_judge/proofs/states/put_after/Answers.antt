@@ -1,3 +1,4 @@
+use Rattle.rcu_judge.proofs.Cited.{arith, common_steps}
 use Rattle.std.proofs.Common.{◌≡◌, is_some, sym, ap, subst}
 use Rattle.rcu_judge.specs.declared.object.ObjectState.{ObjectState}
 use Rattle.rcu_judge.specs.Objects.{states_of, written}
@@ -5,11 +6,7 @@ use Rattle.rcu_judge.proofs.ObjectsTables.{states_wrote, states_missed}
 use Rattle.rcu_judge.proofs.states.put_after.Goals as goal
 
 pub returns-in_default-get_mut-clause-wrote : goal.returns-in_default-get_mut-clause-wrote
-returns-in_default-get_mut-clause-wrote c =
-    let f : ObjectState → ObjectState = λ x. record x { after = c.args.after } in
-    let m = c.get_mut.follows.lender-at-none in
-    subst (λ o. states_of m ≡ written (states_of c.args.states.now) o f) (sym c.in-Some.is)
-    (states_missed c.args.states.now m c.in-Some.object f c.in_default-get_mut.ensures.value (ap (λ t. t.entries) c.get_mut.follows.holds-at-none))
+returns-in_default-get_mut-clause-wrote c = grind (arith, common_steps, states_missed)
 
 pub returns-clause-wrote : goal.returns-clause-wrote
 returns-clause-wrote c =

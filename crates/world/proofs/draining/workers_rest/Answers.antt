@@ -1,5 +1,5 @@
 use Rattle.world.proofs.Fence.{laws_of}
-use Rattle.world.proofs.DrainSettled.{settles}
+use Rattle.world.proofs.DrainSteps.{settles}
 use Rattle.world.proofs.draining.workers_rest.Goals as goal
 
 pub returns : goal.returns

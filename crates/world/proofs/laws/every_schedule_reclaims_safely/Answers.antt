@@ -1,6 +1,5 @@
 use Rattle.world.specs.Steps.{fresh_world_at, world_after_lines}
-use Rattle.world.proofs.Promises.{reached_by}
-use Rattle.world.proofs.Telling.{log_answered}
+use Rattle.world.proofs.Promises.{reached_by, log_answered}
 use Rattle.world.proofs.laws.every_schedule_reclaims_safely.Goals as goal
 
 pub returns : goal.returns

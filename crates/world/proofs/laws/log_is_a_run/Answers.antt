@@ -1,5 +1,5 @@
 use Rattle.world.proofs.Fence.{laws_of}
-use Rattle.world.proofs.TheLaws.{runs}
+use Rattle.world.proofs.Ranging.{runs}
 use Rattle.world.proofs.laws.log_is_a_run.Goals as goal
 
 pub returns : goal.returns

@@ -1,5 +1,5 @@
 use Rattle.world.proofs.Fence.{laws_of}
-use Rattle.world.proofs.TheLaws.{ranges}
+use Rattle.world.proofs.Ranging.{ranges}
 use Rattle.world.proofs.laws.numbers_stay_in_range.Goals as goal
 
 pub returns : goal.returns

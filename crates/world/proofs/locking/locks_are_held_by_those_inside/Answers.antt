@@ -1,6 +1,5 @@
 use Rattle.world.specs.Locks.{LocksAreHeldInside}
-use Rattle.world.proofs.Starting.{start_of}
-use Rattle.world.proofs.Telling.{in_flavour}
+use Rattle.world.proofs.Promises.{start_of, in_flavour}
 use Rattle.world.proofs.locking.locks_are_held_by_those_inside.Goals as goal
 
 pub returns : goal.returns

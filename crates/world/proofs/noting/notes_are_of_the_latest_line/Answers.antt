@@ -2,7 +2,7 @@ use Rattle.world.proofs.Cited.{ℕ, List, sym, subst, Config, Flavour, Memb, Qsb
 use Rattle.world.specs.Lines.{world_after}
 use Rattle.world.specs.Notes.{AreNoted, NotesAreOfTheLatest, replies_to, replies_of}
 use Rattle.world.specs.Steps.{WorldView, memb_plans, qsbr_plans, fresh_in, world_after_lines}
-use Rattle.world.proofs.Telling.{memb_lines, qsbr_lines}
+use Rattle.world.proofs.Promises.{memb_lines, qsbr_lines}
 use Rattle.world.proofs.noting.notes_are_of_the_latest_line.Goals as goal
 
 -- either flavour's notes

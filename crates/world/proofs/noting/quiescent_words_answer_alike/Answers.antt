@@ -1,4 +1,4 @@
-use Rattle.world.proofs.Layouts.{alike_in}
+use Rattle.world.proofs.Loads.{alike_in}
 use Rattle.world.proofs.noting.quiescent_words_answer_alike.Goals as goal
 
 pub returns : goal.returns

@@ -5,7 +5,7 @@ use Rattle.world.specs.Retiring.{RetirementsGoInOrder}
 use Rattle.world.specs.Shown.{HasQueues, IsInRange}
 use Rattle.world.specs.Steps.{WorldView, OfMemb, OfQsbr, memb_plans, qsbr_plans, IsReachedWorld, fresh_world_at, world_after_lines}
 use Rattle.world.proofs.Promises.{reached_by}
-use Rattle.world.proofs.RetireOrder.{in_order}
+use Rattle.world.proofs.Checks.{in_order}
 use Rattle.world.proofs.noting.retirements_go_in_order.Goals as goal
 
 -- an updater's queue is there where there are queues

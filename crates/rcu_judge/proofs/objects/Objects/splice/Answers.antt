@@ -1,4 +1,4 @@
-use Rattle.rcu_judge.proofs.Cited.{◌≡◌, ◌∙◌, ◌<◌, sym, subst, on_ok_weaker, spare}
+use Rattle.rcu_judge.proofs.Cited.{◌≡◌, ◌∙◌, on_ok_weaker, arith, common_steps}
 use Rattle.rcu_judge.specs.declared.object.Stage.TheVariants.{Linked, Cut}
 use Rattle.rcu_judge.specs.Objects.{states_of, written, entered, linked_states, marked_states, left_states}
 use Rattle.rcu_judge.proofs.ObjectsTables.{never_err}
@@ -14,6 +14,4 @@ returns-clause-states c =
     on_ok_weaker c.enter.result (λ e. e ∙ (λ i. entered (e3 i) s.enters (record { chain = s.chain; before = s.before; after = s.after; stage = Linked }))) c.enter.ensures.entered
 
 pub returns-clause-refused : goal.returns-clause-refused
-returns-clause-refused c =
-    let room : spare c.leave.new.states ≡ spare c.make_room.new.states = c.leave.ensures.room ∙ c.put_before.ensures.room ∙ c.put_after.ensures.room in
-    never_err c.enter.result _ (c.enter.ensures.succeeds (subst (λ n. 0 < n) (sym room) c.in_ok-make_room.ensures.room))
+returns-clause-refused c = grind (arith, common_steps, never_err)

@@ -10,7 +10,7 @@ rest c = filter_same _ _ _ (λ x b f' k. search rules) _ _ c.retain.ensures.filt
 pub invariant_of-self : goal.invariant_of-self
 invariant_of-self c =
     subst (λ (ks : List Kept). IsKept c.self.inside.came ks 0) (sym (rest c)) (record {
-      order = in_order_dropped c.self.inside.came c.self.inside.kept.items c.self.invariant.order;
+      order = in_order_dropped 0 c.self.inside.came c.self.inside.kept.items c.self.invariant.order;
       front = next_dropped c.self.inside.kept.items;
     })
 

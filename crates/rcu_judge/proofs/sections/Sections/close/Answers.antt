@@ -1,15 +1,11 @@
-use Rattle.rcu_judge.proofs.Cited.{◌≡◌, ◌≢◌, ◌∙◌, length, ap, sym, refl, subst, List, arith, with_value_at, index_map_len-with_value_at, updates-with_value_at}
+use Rattle.rcu_judge.proofs.Cited.{◌≡◌, ◌≢◌, ◌∙◌, sym, refl, subst, List, arith, with_value_at, index_map_len-with_value_at, updates-with_value_at, common_steps}
 use Rattle.rcu_judge.specs.declared.roster.Kept.{Kept}
 use Rattle.rcu_judge.specs.Roster.{IsNext}
 use Rattle.rcu_judge.proofs.SectionLemmas.{section_laws, entry_at, gone, kept_first, kept_later, closes}
 use Rattle.rcu_judge.proofs.sections.Sections.close.Goals as goal
 
 pub first_present-self-requires : goal.first_present-self-requires
-first_present-self-requires c = record {
-  within =
-      let less = c.in-Some.ensures.within in
-      omega (arith, ap length c.as_slice.ensures, c.values.ensures.len, index_map_len-with_value_at c.args.self.now.kept c.in-Some.at (gone c.index_mut.result.now));
-}
+first_present-self-requires c = grind (arith, common_steps, index_map_len-with_value_at, gone)
 
 pub returns-then-at-self : goal.returns-then-at-self
 returns-then-at-self c = λ seen still a.

@@ -3,8 +3,7 @@ use Rattle.world_state.specs.declared.line.WorkerVerb.TheVariants as verb
 use Rattle.world.specs.Drain.{drain_lines}
 use Rattle.world.specs.Lines.{outcome_of, world_after}
 use Rattle.world.specs.Shown.{shown, IsInRange}
-use Rattle.world.proofs.DrainSteps.{AreSound, all_go_on}
-use Rattle.world.proofs.DrainTrail.{Round, round, drained_none, tells, loop_first, drained}
+use Rattle.world.proofs.DrainSteps.{AreSound, all_go_on, Round, round, drained_none, tells, loop_first, drained}
 use Rattle.world.proofs.board.Board.drain.Given as given
 use Rattle.world.proofs.board.Board.drain.Goals.{In-loop, then-items-ge-END_OF_NUMBERS-via-then-items-ge-END_OF_NUMBERS, then-items-ge-END_OF_NUMBERS-via-else-items-ge-END_OF_NUMBERS+then-is_err}
 use Rattle.world.proofs.board.Board.drain.Goals as goal
@@ -32,13 +31,11 @@ steps_for-steps-requires-clause-readers g c = (c.workers_rest.ensures (shown c.a
 
 pub returns-then-items-eq0 : goal.returns-then-items-eq0
 returns-then-items-eq0 g c =
-    let none = c.if-items-eq0.true in
-    drained_none (plans g) (shown c.args.self.now) c.args.worker c.in_ok-items.items (sym c.items_to_drain.ensures ∙ c.in_ok-items.was) (c.workers_rest.ensures (shown c.args.self.now) c.requires) (omega (arith, none))
+    drained_none (plans g) (shown c.args.self.now) c.args.worker c.in_ok-items.items (sym c.items_to_drain.ensures ∙ c.in_ok-items.was) (c.workers_rest.ensures (shown c.args.self.now) c.requires) (omega (arith, c.if-items-eq0.true))
 
 pub returns-then-items-ge-END_OF_NUMBERS : goal.returns-then-items-ge-END_OF_NUMBERS
 returns-then-items-ge-END_OF_NUMBERS g c =
-    let some_item = c.if-items-eq0.false in
-    let log_told = tells (plans g) (shown c.args.self.now) c.args.worker c.in_ok-items.items (sym c.items_to_drain.ensures ∙ c.in_ok-items.was) (c.workers_rest.ensures (shown c.args.self.now) c.requires) (sound g) (omega (arith, some_item)) in
+    let log_told = tells (plans g) (shown c.args.self.now) c.args.worker c.in_ok-items.items (sym c.items_to_drain.ensures ∙ c.in_ok-items.was) (c.workers_rest.ensures (shown c.args.self.now) c.requires) (sound g) (omega (arith, c.if-items-eq0.false)) in
     elim c.then-items-ge-END_OF_NUMBERS.branch [
       | then-items-ge-END_OF_NUMBERS-via-then-items-ge-END_OF_NUMBERS w ↦ (ap shown w.self-is, inr (refl, log_told))
       | then-items-ge-END_OF_NUMBERS-via-else-items-ge-END_OF_NUMBERS+then-is_err w ↦ (ap shown w.self-is ∙ ap (λ (l : List Event). record (shown c.args.self.now) { log = l }) w.reserve.ensures.items, inr (refl, log_told))
@@ -54,9 +51,8 @@ ok_holds (Err b) e h = absurd (true≢false e)
 pub loop-init : goal.loop-init
 loop-init g c =
     let old = shown c.args.self.now in
-    let some_item = c.if-items-eq0.false in
     let room = ok_holds c.reserve.result (sym c.is_err.ensures.value ∙ c.if-is_err.false) c.reserve.ensures.ok in
-    loop_first (plans g) old c.args.worker c.in_ok-items.items (sym c.items_to_drain.ensures ∙ c.in_ok-items.was) (c.workers_rest.ensures old c.requires) (sound g) (omega (arith, some_item)) (shown c.work.new.self) c.steps_for-steps.result (vec_capacity c.work.new.self.kept.log)
+    loop_first (plans g) old c.args.worker c.in_ok-items.items (sym c.items_to_drain.ensures ∙ c.in_ok-items.was) (c.workers_rest.ensures old c.requires) (sound g) (omega (arith, c.if-items-eq0.false)) (shown c.work.new.self) c.steps_for-steps.result (vec_capacity c.work.new.self.kept.log)
     c.steps_for-steps.ensures c.requires (c.work.ensures.world ∙ ap (λ (l : List Event). (outcome_of (plans g) (record old { log = l }) (Worker c.args.worker verb.Take)).world) c.reserve.ensures.items)
     (omega (arith, room, c.work.ensures.room, c.reserve.ensures.len, c.args.self.now.kept.log.ok))
 
@@ -80,7 +76,5 @@ loop-preserved g c = rw (c.work-in-loop.ensures.world, c.work-in-loop.ensures.ro
 pub returns : goal.returns
 returns g c =
     let old = shown c.args.self.now in
-    let some_item = c.if-items-eq0.false in
-    let past = c.loop-test.false in
-    drained (plans g) old c.args.worker c.in_ok-items.items (sym c.items_to_drain.ensures ∙ c.in_ok-items.was) (c.workers_rest.ensures old c.requires) (sound g) (omega (arith, some_item)) (shown c.loop.self) c.steps_for-steps.result (vec_capacity c.loop.self.kept.log)
-    c.steps_for-steps.ensures (c.workers_rest.ensures (shown c.loop.self) c.loop.invariant.reached) c.loop.counter (omega (arith, past)) c.loop.invariant
+    drained (plans g) old c.args.worker c.in_ok-items.items (sym c.items_to_drain.ensures ∙ c.in_ok-items.was) (c.workers_rest.ensures old c.requires) (sound g) (omega (arith, c.if-items-eq0.false)) (shown c.loop.self) c.steps_for-steps.result (vec_capacity c.loop.self.kept.log)
+    c.steps_for-steps.ensures (c.workers_rest.ensures (shown c.loop.self) c.loop.invariant.reached) c.loop.counter (omega (arith, c.loop-test.false)) c.loop.invariant

@@ -1,7 +1,12 @@
-use Rattle.world.proofs.Cited.{sym, subst, ◌≡◌, List, Some, slice_get, WorkerState, SyncCore}
+use Rattle.world.proofs.Cited.{refl, sym, subst, ◌≡◌, ℕ, rules, List, Some, Action, Starts, step_of, slice_get, WorkerState, SyncCore}
 use Rattle.call_rcu_worker.specs.declared.worker.WorkerCore.TheVariants.{Syncs}
-use Rattle.world.proofs.InGrace.{starts_by_begin}
+use Rattle.call_rcu_worker.specs.declared.sync.SyncStep.TheVariants.{Begin}
 use Rattle.world.proofs.board.Board.go_on_syncing.Goals as goal
+
+-- where a grace period is to begin, it starts
+starts_by_begin : {P C : Type 0} (action : P → Action) (sync : SyncCore P) → ((cookie : ℕ) → sync ≡ Starts cookie → C) → step_of action sync ≡ Begin → C
+starts_by_begin action (Starts cookie) then due = then cookie refl
+starts_by_begin action _ then due = search rules
 
 pub sync_at_once-requires-clause-start : goal.sync_at_once-requires-clause-start
 sync_at_once-requires-clause-start g c =

@@ -1,7 +1,7 @@
 use Rattle.world.proofs.Cited.{ℕ, ◌∙◌, slice_get, Ok, true≢false, sym, ap, subst}
 use Rattle.std.specs.Prelude.{IsTrue}
 use Rattle.world.specs.Shown.{shown}
-use Rattle.world.proofs.DrainTrail.{drains_fresh}
+use Rattle.world.proofs.DrainSteps.{drains_fresh}
 use Rattle.world.proofs.board.Board.items_to_drain.Goals as goal
 
 pub returns : goal.returns

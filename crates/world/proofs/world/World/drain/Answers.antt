@@ -4,9 +4,8 @@ use Rattle.world.specs.declared.world.World.TheInside.{Inside}
 use Rattle.world.specs.Seen.{seen}
 use Rattle.world.specs.Shown.{shown}
 use Rattle.world.specs.Steps.{memb_plans, qsbr_plans, IsReachedWorld}
-use Rattle.world.proofs.DrainWorld.{memb_drain, qsbr_drain, reached_drain}
-use Rattle.world.proofs.Promises.{drain_log}
-use Rattle.world.proofs.Refusals.{drain_refused}
+use Rattle.world.proofs.DrainSteps.{memb_drain, qsbr_drain, reached_drain}
+use Rattle.world.proofs.Promises.{drain_log, drain_refused}
 use Rattle.world.proofs.world.World.drain.Goals.{in-Memb, in-Qsbr}
 use Rattle.world.proofs.world.World.drain.Goals as goal
 

@@ -7,12 +7,8 @@ use Rattle.world.specs.Reached.{IsReached}
 use Rattle.world.specs.Steps.{OfMemb, OfQsbr, memb_plans, qsbr_plans, IsReachedWorld, IsPrompt}
 use Rattle.world.specs.Tests.{IsTested}
 use Rattle.std.specs.Prelude.{Result}
-use Rattle.world.proofs.Prompt.{prompt_meets}
-use Rattle.world.proofs.Reaching.{reached_after}
-use Rattle.world.proofs.Refusals.{step_refused}
+use Rattle.world.proofs.Promises.{prompt_meets, reached_after, step_refused, log_meets, memb_alone, qsbr_alone, meets_tests}
 use Rattle.world.proofs.Standing.{meets_standing, meets_blocked}
-use Rattle.world.proofs.Telling.{log_meets}
-use Rattle.world.proofs.TestsOfSteps.{memb_alone, qsbr_alone, meets_tests}
 use Rattle.world.proofs.world.World.step.Goals.{in-Memb, in-Qsbr}
 use Rattle.world.proofs.world.World.step.Goals as goal
 
