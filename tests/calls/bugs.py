@@ -78,7 +78,7 @@ BUGS = [
     (
         "a search does not come round",
         "live_write/src/search.rt",
-        "None => take_from(table, seat, number, 0, start),",
+        "None => take_from(rt, table, seat, 0, start),",
         "None => None,",
     ),
     (
@@ -168,7 +168,7 @@ BUGS = [
     (
         "a worker loses the record of what it runs",
         "live_callbacks/src/running.rt",
-        "        store_run(table, &mut seat, cell);\n",
+        "        store_run(table, &mut seat, cell, object.0);\n",
         "",
     ),
     (
@@ -261,10 +261,15 @@ BUGS = [
     (
         "a refused table leaves notes",
         "rcu_hash/src/table.rt",
-        "                lents.destroy_empty();\n",
-        "                lents.destroy_empty();\n"
+        "        let (owned, lents) = reserve_record(rt, alloc, domain, caller, first, buckets)?;\n",
+        "        let (owned, lents) = match reserve_record(rt, alloc, domain, caller, first, buckets) {\n"
+        "            Ok(reserved) => reserved,\n"
+        "            Err(refusal) => {\n"
         "                let mut own = own;\n"
-        "                own.set_note(caller, 7);\n",
+        "                own.set_note(caller, 7);\n"
+        "                return Err(refusal);\n"
+        "            }\n"
+        "        };\n",
     ),
     (
         "a growth answers one too few",

@@ -43,11 +43,10 @@ class Drawn:
         return self.answer(line)
 
     def offer(self, line):
-        """One line more, if it is not refused, uses up a number, or now and then all the same."""
-        number = self.script.domain.number
+        """One line more, if it is not refused, or now and then all the same."""
         answer = self.answer(line)
         dull = answer.startswith(("refused", "would"))
-        if not dull or self.script.domain.number != number or self.chance(0.12):
+        if not dull or self.chance(0.12):
             self.lines.append(line)
         return answer
 

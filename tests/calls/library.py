@@ -1,7 +1,7 @@
 """What the live library keeps, for one thread: slots, chains, records, queues and grace periods.
 
-Each function is the public call of that name, by its documentation. A refusal is raised, and has changed nothing but
-the next object number.
+Each function is the public call of that name, by its documentation. A refusal is raised, and has changed nothing. Objects
+are numbered in the order in which they are allocated; a script tells them by names of its own.
 """
 
 
@@ -80,11 +80,10 @@ class Domain:
     # Records and chains
 
     def alloc(self, words):
-        """A refused one uses up an object number too: the number is drawn first."""
-        self.number += 1
         if self.used == self.pool:
             raise Refused(3)
         self.used += 1
+        self.number += 1
         return Object(self.number, words)
 
     def discard(self):

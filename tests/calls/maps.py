@@ -46,7 +46,7 @@ def insert(domain, chain, key, value):
 
 
 def replace(domain, chain, key, value, code):
-    """The new record is allocated first, so that a refused retirement has used up an object number."""
+    """The new record is allocated first, and freed again where the retirement is refused."""
     index = chain.index_of(key)
     if index is None:
         raise Refused(11)
@@ -161,7 +161,7 @@ class Table:
         """A record for each key, and then one for the directory; where one is refused they all are discarded.
 
         The copies are allocated in the order of a walk, and their ranks count from 0 in it. `grow` pushes them in that
-        order, so the later one comes first. A refused growth has used up a number for each copy and the refused one.
+        order, so the later one comes first.
         """
         made = []
         try:

@@ -40,6 +40,8 @@ class Script:
         self.domain = Domain(flavour, *sizes)
         self.has_maps = has_maps
         self.readers, self.maps = {}, {}
+        # The names of the objects that were told, by their numbers.
+        self.names = {}
         self.updaters = [Updater() for _ in range(MOST_OTHERS)]
         self.refused_memory = None
 
@@ -217,7 +219,7 @@ class Script:
 
     def u_alloc(self, updater, call):
         updater.owned.append(self.domain.alloc(call.numbers))
-        return f"o{updater.owned[-1].number}"
+        return self.name(updater.owned[-1].number)
 
     def owned(self, updater):
         if not updater.owned:
@@ -242,9 +244,12 @@ class Script:
             raise Refused(8)
         return chain
 
+    def name(self, number):
+        return f"o{self.names.setdefault(number, len(self.names) + 1)}"
+
     def was_cut(self, updater, chain, item):
         updater.unlinked.append((chain, item))
-        return f"o{item.number}"
+        return self.name(item.number)
 
     def u_replace(self, updater, call):
         self.written(updater, call)
@@ -337,7 +342,7 @@ class Script:
 
     def w_run(self, worker, call):
         finished = self.domain.run(self.tested_work(call))
-        return "finished" + "".join(f" {ticket} o{item} {code}" for ticket, item, code in finished)
+        return "finished" + "".join(f" {ticket} {self.name(item)} {code}" for ticket, item, code in finished)
 
     w_work = w_run
 

@@ -3,8 +3,8 @@
 `watching.py < script` writes the script with these calls.
 
 They take each free chain and each free slot and give them back, and ask for what is refused while something is held. No
-look allocates, since that uses object numbers up: the `records` of `d counts` tell of a record that is lost. But after
-the last line the rest of the pool is taken too.
+look allocates: the `records` of `d counts` tell of a record that is lost. But after the last line the rest of the pool
+is taken too.
 """
 
 import sys

@@ -6,6 +6,7 @@ mod codes;
 mod lines;
 mod looking;
 mod maps;
+mod names;
 mod plain;
 mod readers;
 mod script;

@@ -5,6 +5,7 @@ ghost use Rattle.call_text.specs.declared.answer.Answer.{Answer};
 ghost use Rattle.call_text.specs.Answers.{answer_line};
 ghost use Rattle.calls.specs.Script.{AnswersLines, WritesPiece, StopsAt};
 
+use crate::names::Names;
 use crate::sessions::Answers;
 use call_text::{Answer, Call, Verb, front_call, print_answer};
 use rcu_model::Refusal;
@@ -48,6 +49,7 @@ fn answer_one<S: Answers, H: Wait>(
     alloc: Global,
     session: &mut S,
     refused: &mut Option<Call>,
+    names: &mut Names,
     call: Call,
     out: &mut Vec<u8>,
 ) -> Result<(), AllocError>
@@ -56,7 +58,7 @@ fn answer_one<S: Answers, H: Wait>(
     ensures printed { OnOk result ((answer : Answer) × (out.new.items ≡ out.old.items ++ answer_line answer)) }
 {
     let answer = answer_call(rt, alloc, session, refused, call);
-    print_answer(&answer, out)?;
+    print_answer(&names.tell(answer)?, out)?;
     Ok(())
 }
 
@@ -99,12 +101,13 @@ pub(crate) fn answer_lines<S: Answers, W: Write, H: Wait>(
 {
     let mut out = Vec::new(alloc);
     let mut refused = None;
+    let mut names = Names::new(alloc);
     let mut line: u64 = 2;
     let mut rest = text;
     while !rest.is_empty() {
         match front_call(rest) {
             Ok((call, after)) => {
-                answer_one(rt, alloc, session, &mut refused, call, &mut out)?;
+                answer_one(rt, alloc, session, &mut refused, &mut names, call, &mut out)?;
                 line = line.saturating_add(1);
                 rest = after;
                 write_piece(writer, &mut out)?;

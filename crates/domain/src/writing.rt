@@ -11,7 +11,7 @@ ghost use Rattle.live_words.specs.live_rule.Rights.{cell_in, object_in, payload_
 ghost use Rattle.live_words.specs.live_rule.Steps.{Keeps};
 ghost use Rattle.live_read.specs.Hearing.{IsAfter, OnlyHears, Stays};
 ghost use Rattle.live_write.specs.Calls.{IsHad, IsNotHad, IsUnretired, KeepsRight, LoadsHeader, LoadsSeqBefore};
-ghost use Rattle.live_write.specs.Searching.{GetsNoRecord, TakesFor};
+ghost use Rattle.live_write.specs.Searching.{GetsNoRecord, TakesFor, freed_look};
 
 use crate::domain::Domain;
 use callback_queue::Callback;
@@ -31,11 +31,11 @@ pub type Lent<'d, P, K, B, D = Callback> = live_write::Lent<'d, P, K, B, Domain<
 
 impl<P: GracePlan + Drop, K: ChainRule, B: Site, D: Deleter> Domain<P, K, B, D> {
     /// A record with these four words, which no chain links yet. The caller hears of what was seen at that. `looks`
-    /// tells the words that it found and stored: it draws one number, and takes one record.
+    /// tells the words that it found and stored: it takes one record, and the object has the record's next number.
     ///
-    /// Refused with `PoolFull` only where it found the header of each record other than 0, or the last object number at
-    /// or above 2^62. A number is drawn before a record is looked for, so a refusal by a full pool uses one up. It
-    /// waits for nobody, but tries again where other threads draw object numbers meanwhile.
+    /// Refused with `PoolFull` only where it found each record in use, or with no number below 2^62 left for another
+    /// object; then it stored nothing. It waits for nobody, but tries again where other threads take and free the record
+    /// meanwhile.
     pub fn alloc<W: Caller<B>, R: Wait>(
         &self,
         rt: &R,
@@ -54,7 +54,7 @@ impl<P: GracePlan + Drop, K: ChainRule, B: Site, D: Deleter> Domain<P, K, B, D> 
     /// Frees a record that no chain has linked. Its object's number is given to no other. The caller hears of what was
     /// seen at the allocation; `looks` tells the store.
     pub fn discard<W: Caller<B>>(&self, caller: &mut W, owned: Owned<B>)
-        ensures freed { W.looks caller.new ≡ Stored (cell_at B.sizes (cell_in owned.seat.me.0.object) 0) 0 ∷ W.looks caller.old }
+        ensures freed { W.looks caller.new ≡ freed_look B.sizes owned.seat.me.0.object ∷ W.looks caller.old }
         ensures heard { IsAfter P.QSBR K.allows (W.seen caller.old) (W.heard caller.old) (W.heard caller.new) × Begins owned.seat.me.0.seen (W.heard caller.new) }
         ensures loads { LoadsSeqBefore W.Caller P.QSBR K.allows caller.old caller.new }
         ensures same { Stays W.Caller caller.old caller.new }

@@ -92,7 +92,7 @@ fn a_worker_runs_what_a_closed_queue_has(rt: HostRuntime) {
     );
     let entry = Finished {
         ticket: Ticket(1),
-        object: ObjectId(1),
+        object: ObjectId(7),
         code: 5,
     };
     assert_eq!(rt; ticket, 1);

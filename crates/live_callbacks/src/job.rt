@@ -15,8 +15,8 @@ pub struct Job<B: Site, C: Drop> {
 }
 
 impl<B: Site, C: Drop> Model for Job<B, C> {
-    ghost use Rattle.std.specs.Prelude.{◌≡◌, ◌<◌, []};
-    ghost use Rattle.live_words.specs.live_rule.Rights.{IsQueued, cell_in};
+    ghost use Rattle.std.specs.Prelude.{◌≡◌, ◌<◌, ◌^◌, []};
+    ghost use Rattle.live_words.specs.live_rule.Rights.{IsQueued, cell_in, object_in};
     ghost use Rattle.live_callbacks.specs.Items.{JobValue};
 
     // What its seat knows, its record, what is called, and the code with which that was queued.
@@ -24,17 +24,18 @@ impl<B: Site, C: Drop> Model for Job<B, C> {
 
     ghost view = { λ j. (j.seat.me.0, j.cell, j.callback, j.identity.code) };
 
-    ghost invariant = { λ j. (j.seat.table_id ≡ B.table) × (j.seat.me.1 ≡ []) × (j.seat.me.0.sizes ≡ B.sizes) × IsQueued j.seat.me.0 × (cell_in j.seat.me.0.object ≡ j.cell) × (j.cell < B.sizes.pool) × (j.identity.value ≡ j.callback) };
+    ghost invariant = { λ j. (j.seat.table_id ≡ B.table) × (j.seat.me.1 ≡ []) × (j.seat.me.0.sizes ≡ B.sizes) × IsQueued j.seat.me.0 × (cell_in j.seat.me.0.object ≡ j.cell) × (j.cell < B.sizes.pool) × ((object_in j.seat.me.0.object).0 < 2 ^ 62) × (j.identity.value ≡ j.callback) };
 }
 
 impl<B: Site, C: Drop> Job<B, C> {
-    ghost use Rattle.std.specs.Prelude.{◌≡◌, ◌<◌, []};
-    ghost use Rattle.live_words.specs.live_rule.Rights.{IsQueued, cell_in};
+    ghost use Rattle.std.specs.Prelude.{◌≡◌, ◌<◌, ◌^◌, []};
+    ghost use Rattle.live_words.specs.live_rule.Rights.{IsQueued, cell_in, object_in};
 
     /// Of a seat with the right to run its object.
     pub(crate) fn of(seat: LiveSeat, cell: usize, callback: C, identity: Identity<C>) -> Job<B, C>
         requires site { (seat.table_id ≡ B.table) × (seat.me.0.sizes ≡ B.sizes) × (seat.me.1 ≡ []) }
         requires right { IsQueued seat.me.0 × (cell_in seat.me.0.object ≡ cell) × (cell < B.sizes.pool) }
+        requires number { (object_in seat.me.0.object).0 < 2 ^ 62 }
         requires identity { identity.value ≡ callback }
         ensures { result ≡ (seat.me.0, cell, callback, identity.code) }
     {

@@ -1,5 +1,5 @@
 //! How an object is retired and its callback queued, made of its steps.
-ghost use Rattle.std.specs.Prelude.{◌≡◌};
+ghost use Rattle.std.specs.Prelude.{◌≡◌, ◌<◌, ◌^◌};
 ghost use Rattle.live_log.specs.Log.{Begins};
 ghost use Rattle.live_words.specs.live_rule.Seen.{Precedes};
 ghost use Rattle.live_words.specs.live_rule.Rights.{IsUnlinked, cell_in, object_in};
@@ -27,7 +27,7 @@ pub fn queue_object<P: GracePlan, K: ChainRule>(
     requires right { IsUnlinked unlinked.me.0 × (cell_in unlinked.me.0.object ≡ cell) }
     ensures lock { GivesOneMore lock.old lock.new queue given }
     ensures job { HasQueued table.now.words.shared.table_id lock.old unlinked result.0 cell }
-    ensures number { result.1 ≡ (object_in unlinked.me.0.object).0 }
+    ensures number { (result.1 ≡ (object_in unlinked.me.0.object).0) × (result.1 < 2 ^ 62) }
     ensures queued { Queues P.QSBR K.allows (Precedes unlinked.me.0) (object_in unlinked.me.0.object) queue given callback.now.code lock.new.me.0.seen }
     ensures same { result.0.me.0.seen ≡ lock.new.me.0.seen }
     ensures later { Begins lock.old.me.0.seen lock.new.me.0.seen }

@@ -62,7 +62,7 @@ impl<B: Site, C: Drop> Job<B, C> {
         identity.tells();
         table.learn(&mut seat, table.tell(worker));
         let payload = load_words(table, &mut seat, cell);
-        store_run(table, &mut seat, cell);
+        store_run(table, &mut seat, cell, object.0);
         table.learn(worker, table.tell(&mut seat));
         (Ripe { object, payload }, callback)
     }

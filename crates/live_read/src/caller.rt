@@ -40,6 +40,12 @@ pub trait Caller<B: Site> {
     /// Of a reader, that its section of the log is open in what it has seen. It says nothing of a handle.
     ghost is_in: { Self → Type 0 };
 
+    /// Where its next search for a free record begins: each call answers another number. Those of another caller differ,
+    /// so that searches of two threads seldom meet.
+    fn search_from(&mut self) -> u64
+        ensures same { KeepsAll seen heard loads looks standing changes self.old self.new }
+        ensures inside { is_in self.old → is_in self.new };
+
     /// A seat that has seen and heard as much, and has no right and has found nothing.
     fn tell<P: GracePlan, K: ChainRule>(&mut self, table: &LiveTable<P, K>) -> LiveSeat
         requires { table.now.words.shared.table_id ≡ B.table }
@@ -69,10 +75,33 @@ pub trait Caller<B: Site> {
         ensures inside { is_in self.old → is_in self.new };
 }
 
-/// What a thread that has no reader has seen of the log: its seat, which has no bytes.
+/// The odd number that spreads searches: 2^64 divided by the golden ratio.
+const SPREAD: u64 = 11_400_714_819_323_198_485;
+
+/// Where the searches of a caller begin: each goes on from the one before.
+#[derive(Clone, Copy, Drop)]
+pub(crate) struct Searches(u64);
+
+impl Searches {
+    /// Those of the caller with this number. By two factors its searches begin far from those of other callers, which
+    /// take steps of one.
+    pub(crate) fn of(number: u64) -> Searches {
+        Searches(number.wrapping_mul(SPREAD).wrapping_mul(SPREAD))
+    }
+
+    /// Where the next one begins.
+    fn next(&mut self) -> u64 {
+        self.0 = self.0.wrapping_add(SPREAD);
+        self.0
+    }
+}
+
+/// What a thread that has no reader has seen of the log: its seat, which has no bytes. It keeps where its searches for a
+/// free record begin.
 #[derive(Drop)]
 pub struct Handle<B: Site> {
     pub(crate) seat: LiveSeat,
+    pub(crate) searches: Searches,
     pub(crate) site: PhantomData<B>,
     pub ghost seated: { (seat.table_id ≡ B.table) × (seat.me.0.sizes ≡ B.sizes) × (seat.me.1 ≡ []) },
 }
@@ -87,6 +116,7 @@ impl<B: Site> Handle<B> {
     {
         Handle {
             seat,
+            searches: Searches::of(0),
             site: PhantomData,
         }
     }
@@ -100,7 +130,12 @@ impl<B: Site> Handle<B> {
         ensures told { (result.seat.me.0.seen ≡ W.seen caller.old) × (result.seat.me.0.heard ≡ W.heard caller.old) }
         ensures same { IsAsBefore W.Caller caller.old caller.new }
     {
-        Handle::new(caller.tell(table))
+        let searches = Searches::of(caller.search_from());
+        Handle {
+            seat: caller.tell(table),
+            searches,
+            site: PhantomData,
+        }
     }
 }
 
@@ -121,6 +156,10 @@ impl<B: Site> Caller<B> for Handle<B> {
     ghost standing = { λ r. nowhere };
 
     ghost is_in = { λ r. ⊤ };
+
+    fn search_from(&mut self) -> u64 {
+        self.searches.next()
+    }
 
     fn tell<P: GracePlan, K: ChainRule>(&mut self, table: &LiveTable<P, K>) -> LiveSeat {
         table.tell(&mut self.seat)
@@ -157,6 +196,10 @@ impl<P: GracePlan, K: ChainRule, B: Site> Caller<B> for Reader<P, K, B> {
     ghost is_in = { λ r. IsIn r.core };
 
     ghost standing = { λ r. record { slot = r.core.slot; word = r.core.word; ordinal = count_in r.core.seat.me.0.slot; depth = r.core.depth; locks = r.core.locks } };
+
+    fn search_from(&mut self) -> u64 {
+        self.core.searches.next()
+    }
 
     fn tell<Q: GracePlan, L: ChainRule>(&mut self, table: &LiveTable<Q, L>) -> LiveSeat {
         table.tell(&mut self.core.seat)

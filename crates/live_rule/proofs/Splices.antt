@@ -1,14 +1,14 @@
 -- The one store that leads past, to, or into another object keeps the heap: for a push, a replacement and a cut alike,
 -- at a head or at a link.
-use Rattle.live_rule.proofs.Cited.{◌≡◌, ◌≢◌, ◌⊎◌, ℕ, ◌+◌, ◌*◌, ◌/◌, ◌<◌, ◌≤◌, List, length, get_or, set, sym, refl, ap, ◌∙◌, subst, inl, inr, ⊎_elim, arith, get_or-set_other, get_or-set_same, Option, Some, None, option_or, ObjectId, In, Objects, Spot, head, link, spot_of, Leads, Moved, Still, head_no_link, link_is}
+use Rattle.live_rule.proofs.Cited.{◌≡◌, ◌≢◌, ◌⊎◌, ℕ, ◌+◌, ◌/◌, ◌%◌, ◌<◌, ◌≤◌, List, length, get_or, set, sym, refl, ap, ◌∙◌, subst, inl, inr, ⊎_elim, arith, get_or-set_other, get_or-set_same, Option, Some, None, option_or, ObjectId, In, Objects, Spot, head, link, spot_of, Leads, Moved, Still, head_no_link, link_is}
 use Rattle.live_rule.specs.declared.view.Sizes.{Sizes}
-use Rattle.live_rule.specs.Places.{last_at, cell_at}
-use Rattle.live_rule.specs.Objects.{ref, IsAlive, IsLive, spot_at, IsPayload, Header, ObjectWords}
+use Rattle.live_rule.specs.Places.{cell_at}
+use Rattle.live_rule.specs.Objects.{ref, IsAlive, IsLive, spot_at, IsPayload, fresh_word, last_in, IsOwnNumber, Header, ObjectWords}
 use Rattle.live_rule.proofs.Frames.{ref_same, header_same, SameObject}
 
 -- the record of the object that enters
 pub record Enters (key : Sizes) (now : Objects) (words : List ℕ) (next : Option ObjectId) (m : ObjectId) : Type 0 where
-  pub number : (1 ≤ m.0) × (m.0 ≤ get_or words (last_at key) 0)
+  pub number : (1 ≤ m.0) × (m.0 ≤ last_in key words (m.0 % key.pool))
   pub low : (now.note m).0 < key.pool
   pub header : Header now m (get_or words (cell_at key (now.note m).0 0) 0)
   pub link : get_or words (cell_at key (now.note m).0 1) 0 ≡ ref now next
@@ -39,7 +39,7 @@ module _ (key : Sizes) (was now : Objects) (words : List ℕ) (c : ℕ) (p next 
 
   -- two objects have two records
   records_apart : (o q : ObjectId) → IsAlive now o → IsAlive now q → o ≢ q → (now.note o).0 ≢ (now.note q).0
-  records_apart o q a b ne same = ne (let e : o.0 ≡ q.0 = sym (header_now o a).half ∙ (ap (λ (z : ℕ). get_or words (cell_at key z 0) 0 / 2) same ∙ (header_now q b).half) in λ i. record { 0 = e i })
+  records_apart o q a b ne same = ne (let e : o.0 ≡ q.0 = sym (header_now o a).number ∙ (ap (last_in key words) same ∙ (header_now q b).number) in λ i. record { 0 = e i })
 
   -- the place that is stored, by the log of now
   place_now : (q : Option ObjectId) → IsLive key was (spot_of c q) → (spot_at key was (spot_of c q) ≡ spot_at key now (spot_of c q)) × IsLive key now (spot_of c q)
@@ -50,10 +50,6 @@ module _ (key : Sizes) (was now : Objects) (words : List ℕ) (c : ℕ) (p next 
   no_link : (q : Option ObjectId) (i n : ℕ) → n < 6 → n ≢ 1 → cell_at key i n ≢ spot_at key now (spot_of c q)
   no_link None i n l ne e = omega arith
   no_link (Some o) i n l ne e = ne (omega arith)
-
-  no_last : (q : Option ObjectId) → last_at key ≢ spot_at key now (spot_of c q)
-  no_last None e = omega arith
-  no_last (Some o) e = omega arith
 
   no_spot : (q : Option ObjectId) (t : Spot) → IsLive key now t → IsLive key now (spot_of c q) → t ≢ spot_of c q → spot_at key now t ≢ spot_at key now (spot_of c q)
   no_spot None (head d) l k ne e = ne (let f : d ≡ c = omega arith in ap head f)
@@ -70,9 +66,13 @@ module _ (key : Sizes) (was now : Objects) (words : List ℕ) (c : ℕ) (p next 
   kept : (i : ℕ) → i ≢ spot_at key now (spot_of c p) → get_or W i 0 ≡ get_or words i 0
   kept i far = get_or-set_other words (spot_at key was (spot_of c p)) i x 0 (λ e. far (e ∙ place.0))
 
+  last_same : (i : ℕ) → last_in key W i ≡ last_in key words i
+  last_same i = ap (λ (z : ℕ). z / 4) (kept (cell_at key i 0) (no_link p i 0 (omega arith) (λ e. omega arith)))
+
   pub heap_spliced : spot_at key was (spot_of c p) < length words → ObjectWords key now W
   heap_spliced inside = record {
-    numbers = λ o u. subst (λ (z : ℕ). (1 ≤ o.0) × (o.0 ≤ z)) (sym (kept (last_at key) (no_last p))) (⊎_elim (λ (e : enters ≡ Some o). (entering o e).number) (heap.numbers o) (moved.used_before o u));
+    numbers = λ o u. subst (λ (z : ℕ). (1 ≤ o.0) × (o.0 ≤ z)) (sym (last_same (o.0 % key.pool))) (⊎_elim (λ (e : enters ≡ Some o). (entering o e).number) (heap.numbers o) (moved.used_before o u));
+    own = λ i. subst (IsOwnNumber key i) (sym (last_same i)) (heap.own i);
     low = λ o a. ⊎_elim (λ (e : enters ≡ Some o). (entering o e).low) (λ (b : IsAlive was o). subst (λ (z : ℕ × List ℕ). z.0 < key.pool) (sym (note_old o b.0)) (heap.low o b)) (alive_before o a);
     header = λ o a. subst (Header now o) (sym (kept (cell_at key (now.note o).0 0) (no_link p (now.note o).0 0 (omega arith) (λ e. omega arith)))) (header_now o a);
     payload = λ o a k l. kept (cell_at key (now.note o).0 (k + 2)) (no_link p (now.note o).0 (k + 2) (omega arith) (λ e. omega arith)) ∙ payload_now o a k l;
@@ -111,14 +111,14 @@ module _ (key : Sizes) (was now : Objects) (words : List ℕ) (c : ℕ) (p next 
   }
 
   -- the record of an object that is on no chain keeps its words
-  pub free_cell : (i : ℕ) (o : ObjectId) → ¬ In was.used o → get_or words (cell_at key i 0) 0 ≡ 2 * o.0 → (n : ℕ) → n < 6 → get_or W (cell_at key i n) 0 ≡ get_or words (cell_at key i n) 0
+  pub free_cell : (i : ℕ) (o : ObjectId) → ¬ In was.used o → get_or words (cell_at key i 0) 0 ≡ fresh_word o.0 → (n : ℕ) → n < 6 → get_or W (cell_at key i n) 0 ≡ get_or words (cell_at key i n) 0
   free_cell i o fresh header n l = kept (cell_at key i n) (far p live)
     where
       far : (q : Option ObjectId) → IsLive key was (spot_of c q) → cell_at key i n ≢ spot_at key now (spot_of c q)
       far None k e = omega arith
       far (Some q) k e =
           let same : (was.note q).0 ≡ i = let z : (now.note q).0 ≡ i = omega arith in ap (λ (y : ℕ × List ℕ). y.0) (sym (note_old q k.0)) ∙ z in
-          let half : get_or words (cell_at key i 0) 0 / 2 ≡ q.0 = ap (λ (z : ℕ). get_or words (cell_at key z 0) 0 / 2) (sym same) ∙ (heap.header q k).half in
+          let last : last_in key words i ≡ q.0 = ap (last_in key words) (sym same) ∙ (heap.header q k).number in
           let y : q.0 ≡ o.0 = omega arith in fresh (subst (In was.used) (λ j. record { 0 = y j }) k.0)
 
 -- a word leads to what one head or one link does
@@ -127,4 +127,4 @@ same_spot key w words heap (head c) (head d) l k e = let f : c ≡ d = omega ari
 same_spot key w words heap (head c) (link o) l k e = let b : c < key.chains = l in absurd (omega arith)
 same_spot key w words heap (link o) (head c) l k e = let b : c < key.chains = k in absurd (omega arith)
 same_spot key w words heap (link o) (link q) l k e = let i : (w.note o).0 ≡ (w.note q).0 = omega arith in
-    let n : o.0 ≡ q.0 = sym (heap.header o l).half ∙ (ap (λ (z : ℕ). get_or words (cell_at key z 0) 0 / 2) i ∙ (heap.header q k).half) in λ j. link (record { 0 = n j })
+    let n : o.0 ≡ q.0 = sym (heap.header o l).number ∙ (ap (last_in key words) i ∙ (heap.header q k).number) in λ j. link (record { 0 = n j })

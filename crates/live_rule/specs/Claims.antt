@@ -1,5 +1,5 @@
 -- What each right claims, and what the rule says of what is claimed.
-use Rattle.std.specs.Prelude.{◌≡◌, ◌⊎◌, ℕ, ◌*◌, ◌%◌, ◌<◌, ◌≤◌, List, [], ◌∷◌, Bool, true, length, slice_index}
+use Rattle.std.specs.Prelude.{◌≡◌, ◌⊎◌, ℕ, ◌%◌, ◌<◌, ◌≤◌, List, [], ◌∷◌, Bool, true, length, slice_index}
 use Rattle.rcu_model.specs.declared.event.ObjectId.{ObjectId}
 use Rattle.rcu_model.specs.Sets.{In}
 use Rattle.live_log.specs.Log.{Log, sections_of, seq_of, present_of, before_odd, chain_note, Objects, objects_of}
@@ -16,9 +16,9 @@ use Rattle.live_rule.specs.declared.rights.QueueRight.{QueueRight}
 use Rattle.live_rule.specs.declared.rights.QueueRight.TheVariants as queue_right
 use Rattle.live_rule.specs.declared.rights.WorkRight.{WorkRight}
 use Rattle.live_rule.specs.declared.rights.WorkRight.TheVariants as work_right
-use Rattle.live_rule.specs.Places.{bit_at, slot_at, head_at, hold_at, last_at, cell_at, queued_at, closed_at, finished_at, work_at}
+use Rattle.live_rule.specs.Places.{bit_at, slot_at, head_at, hold_at, cell_at, queued_at, closed_at, finished_at, work_at}
 use Rattle.live_rule.specs.Readers.{SawAll}
-use Rattle.live_rule.specs.Objects.{IsPayload}
+use Rattle.live_rule.specs.Objects.{IsPayload, fresh_word}
 
 -- what one seat at a time may have: a slot's word, the words of grace periods, a chain, an object and
 -- its record, a queue, or a queue's work
@@ -46,7 +46,6 @@ ClaimsChain (x ∷ xs) c = (x.chain ≡ c) ⊎ ClaimsChain xs c
 
 abbrev pub ClaimsObject : RecordRight → ObjectId → Type 0
 ClaimsObject record_right.Nothing o = ⊥
-ClaimsObject (record_right.Drawn p) o = p ≡ o
 ClaimsObject (record_right.Fresh i p l w) o = p ≡ o
 ClaimsObject (record_right.Unlinked i p) o = p ≡ o
 ClaimsObject (record_right.Retired i p) o = p ≡ o
@@ -91,9 +90,8 @@ module _ (qsbr : Bool) (key : Sizes) (log : Log) (words : List ℕ) where
 
   abbrev pub KnowsObject : Objects → RecordRight → Type 0
   KnowsObject w record_right.Nothing = Unit {0}
-  KnowsObject w (record_right.Drawn o) = (¬ In w.used o) × (1 ≤ o.0) × (o.0 ≤ slice_index words (last_at key))
   KnowsObject w (record_right.Fresh i o l p) =
-      (¬ In w.used o) × (1 ≤ o.0) × (o.0 ≤ slice_index words (last_at key)) × (i < key.pool) × (slice_index words (cell_at key i 0) ≡ 2 * o.0) × (slice_index words (cell_at key i 1) ≡ l) × (length p ≡ 4) × IsPayload key words i p
+      (¬ In w.used o) × (1 ≤ o.0) × (i < key.pool) × (slice_index words (cell_at key i 0) ≡ fresh_word o.0) × (slice_index words (cell_at key i 1) ≡ l) × (length p ≡ 4) × IsPayload key words i p
   KnowsObject w (record_right.Unlinked i o) = In w.cut o × (¬ In w.retired o) × ((w.note o).0 ≡ i)
   KnowsObject w (record_right.Retired i o) = In w.retired o × (¬ In w.queued o) × (¬ In w.reclaimed o) × ((w.note o).0 ≡ i)
   KnowsObject w (record_right.Queued i o) = In w.retired o × In w.queued o × (¬ In w.reclaimed o) × ((w.note o).0 ≡ i)

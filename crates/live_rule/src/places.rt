@@ -20,7 +20,7 @@ const SLOTS: usize = 64;
 /// Where the words lie, by `Places` of the rule.
 impl<P: GracePlan, K: ChainRule> LiveTable<P, K> {
     ghost use Rattle.std.specs.Prelude.{ℕ, ◌+◌, ◌*◌};
-    ghost use Rattle.live_rule.specs.Places.{cell_at, closed_at, finished_at, group_at, head_at, hold_at, last_at, note_at, present_at, queued_at, seq_at, slot_at, work_at};
+    ghost use Rattle.live_rule.specs.Places.{cell_at, closed_at, finished_at, group_at, head_at, hold_at, note_at, present_at, queued_at, seq_at, slot_at, work_at};
 
     /// The word of a slot's reader.
     pub fn slot_place(&self, slot: usize) -> usize
@@ -106,13 +106,6 @@ impl<P: GracePlan, K: ChainRule> LiveTable<P, K> {
         ensures { (result ≡ work_at self.now.words.shared.key queue) × (result < self.now.words.shared.table_id.words) }
     {
         16 * self.slots + 8 * self.chains + 97 + 32 * queue
-    }
-
-    /// The last object number that was given.
-    pub fn last_place(&self) -> usize
-        ensures { (result ≡ last_at self.now.words.shared.key) × (result < self.now.words.shared.table_id.words) }
-    {
-        16 * self.slots + 8 * self.chains + 32 * self.queues + 88
     }
 
     /// A word of a record: its header is word 0, its link word 1, and its payload words 2 to 5.

@@ -39,8 +39,6 @@ pub struct ChainRight {
 pub enum RecordRight {
     /// None.
     Nothing,
-    /// A number that was given to no record.
-    Drawn(ObjectId),
     /// The record, its object, which no chain has linked yet, its link and its payload.
     Fresh(u64, ObjectId, u64, LinkedList<u64>),
     /// The record, and its object, which is cut and not retired.

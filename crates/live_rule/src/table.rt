@@ -55,7 +55,7 @@ impl<P: GracePlan, K: ChainRule> LiveTable<P, K> {
         ensures seat { IfOk result (λ made. (made.1.table_id ≡ made.0.words.shared.table_id) × (made.1.me ≡ (first_view made.0.words.shared.key, []))) }
         ensures sizes { IfOk result (λ made. (made.0.slots ≡ slots) × (made.0.chains ≡ chains) × (made.0.queues ≡ queues) × (made.0.pool ≡ pool)) }
     {
-        let zeros = vec![in alloc; 0u64; 16 * slots + 8 * chains + 32 * queues + 6 * pool + 112]?;
+        let zeros = vec![in alloc; 0u64; 16 * slots + 8 * chains + 32 * queues + 6 * pool + 96]?;
         let key = Sizes {
             slots: slots as u64,
             chains: chains as u64,
@@ -71,7 +71,7 @@ impl<P: GracePlan, K: ChainRule> LiveTable<P, K> {
                 queues,
                 pool,
                 chains_from: 16 * slots + 72,
-                records_from: 16 * slots + 8 * chains + 32 * queues + 104,
+                records_from: 16 * slots + 8 * chains + 32 * queues + 88,
             },
             seat,
         ))

@@ -9,8 +9,8 @@ ghost use Rattle.live_words.specs.live_rule.Steps.{Keeps};
 use gp_memb::{GracePlan, MembPlan};
 use gp_qsbr::QsbrPlan;
 use live_words::{
-    AnyChain, LiveSeat, LiveTable, draw_number, free_chain, hold_chain, load_head, load_header,
-    load_last, load_link, load_note, load_word, push, store_discard, store_link, store_note,
+    AnyChain, LiveSeat, LiveTable, free_chain, hold_chain, load_head, load_header, load_link,
+    load_note, load_number, load_word, next_number, push, store_discard, store_link, store_note,
     store_push, store_word, take_cell,
 };
 
@@ -24,14 +24,12 @@ fn fresh_record<P: GracePlan>(
     ensures seat { Keeps seat.old seat.new × (seat.new.me.0.sizes ≡ seat.old.me.0.sizes) × (seat.new.me.0.chains ≡ seat.old.me.0.chains) }
     ensures fresh { IsTrue result → IsFresh seat.new.me.0 × (cell_in seat.new.me.0.object ≡ cell) }
 {
-    let last = load_last(table, seat);
-    if last >= 1 << 62 {
+    let header = load_header(table, seat, cell);
+    if header % 4 != 0 || header / 4 + 2 * table.pool as u64 > 1 << 62 {
         return false;
     }
-    if draw_number(table, seat, last) != last {
-        return false;
-    }
-    take_cell(table, seat, cell, last + 1) == 0
+    let number = next_number(table, cell, header);
+    take_cell(table, seat, cell, header, number) == header
 }
 
 #[test]
@@ -43,14 +41,15 @@ fn a_record_is_taken_and_discarded(rt: HostRuntime) {
     let taken = fresh_record(&table, &mut root, 2);
     assert!(rt; taken);
     if taken {
-        assert_eq!(rt; table.words.shared.peek(112), 1);
-        assert_eq!(rt; table.words.shared.peek(140), 2);
+        assert_eq!(rt; table.words.shared.peek(124), 25);
         store_link(&table, &mut root, 2, 7);
-        assert_eq!(rt; table.words.shared.peek(141), 7);
+        assert_eq!(rt; table.words.shared.peek(125), 7);
         store_word(&table, &mut root, 2, 3, 11);
-        assert_eq!(rt; table.words.shared.peek(145), 11);
-        store_discard(&table, &mut root, 2);
-        assert_eq!(rt; table.words.shared.peek(140), 0);
+        assert_eq!(rt; table.words.shared.peek(129), 11);
+        let number = load_number(&table, &mut root, 2);
+        assert_eq!(rt; number, 6);
+        store_discard(&table, &mut root, 2, number);
+        assert_eq!(rt; table.words.shared.peek(124), 24);
     }
 }
 
@@ -93,6 +92,6 @@ fn a_head_is_stored_after_its_link(rt: HostRuntime) {
         store_link(&table, &mut root, 1, head);
         store_push(&table, &mut root, 0, 1);
         assert_eq!(rt; table.words.shared.peek(88), 2);
-        assert_eq!(rt; table.words.shared.peek(135), 0);
+        assert_eq!(rt; table.words.shared.peek(119), 0);
     }
 }

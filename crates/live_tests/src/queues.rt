@@ -1,6 +1,7 @@
 //! Queues: what is retired, what is refused once a queue is closed, who works for a queue, and barriers. The tables
 //! have one slot, one chain, one queue and four records: the queued count is word 104, the closed word 105, and the
-//! hold word of the queue's worker word 121. The first object lies in the last record, whose header is word 178.
+//! hold word of the queue's worker word 121. A record's first object has the number 4 and the record's more. The first
+//! search of a handle begins at the last record, and the second at the first one.
 
 ghost use Rattle.std.specs.Prelude.{◌≡◌, []};
 ghost use Rattle.live_words.specs.live_rule.Views.{first_view};
@@ -106,7 +107,7 @@ fn a_batch_is_taken_whole(rt: HostRuntime) {
     let (numbers, refused) = batches::<_, Brand, _>(&rt, rt.alloc(), &table, root).expect(
         &rt, "memory",
     );
-    assert_eq!(rt; numbers, [0, 2, 1, 2, 9]);
+    assert_eq!(rt; numbers, [0, 2, 7, 4, 9]);
     assert!(rt; refused);
 }
 

@@ -138,7 +138,6 @@ fn words_have_their_places(rt: HostRuntime) {
     assert_eq!(rt; table.closed_place(0), 145);
     assert_eq!(rt; table.finished_place(0), 160);
     assert_eq!(rt; table.work_place(1), 193);
-    assert_eq!(rt; table.last_place(), 216);
-    assert_eq!(rt; table.cell_place(0, 0), 232);
-    assert_eq!(rt; table.cell_place(3, 5), 255);
+    assert_eq!(rt; table.cell_place(0, 0), 216);
+    assert_eq!(rt; table.cell_place(3, 5), 239);
 }

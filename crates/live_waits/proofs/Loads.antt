@@ -1,5 +1,5 @@
 -- What the loads of a count tell, one after another.
-use Rattle.live_waits.proofs.Cited.{◌≡◌, ℕ, zero, suc, ◌+◌, ◌==◌, ◌<◌, ◌≤◌, Bool, List, ◌∷◌, length, get_or, set, get_or-set_same, get_or-set_other, refl, ap, ◌∙◌, subst, arith, if◌then◌else◌, length-append, Me, LiveEvent, Log, Begins, line_of, begins_trans, line_grows, Loaded, Sizes, View, cell_at, finished_at, queued_at, Went, looked_view}
+use Rattle.live_waits.proofs.Cited.{◌≡◌, ◌%◌, ℕ, zero, suc, ◌+◌, ◌==◌, ◌<◌, ◌≤◌, Bool, List, ◌∷◌, length, get_or, set, get_or-set_same, get_or-set_other, refl, ap, ◌∙◌, subst, arith, if◌then◌else◌, length-append, Me, LiveEvent, Log, Begins, line_of, begins_trans, line_grows, Loaded, Sizes, View, cell_at, finished_at, queued_at, Went, looked_view}
 use Rattle.live_waits.specs.Status.{AreInUse, AreWaiting, HasFound, HasNone, Looks}
 
 -- one more load
@@ -15,7 +15,7 @@ pub longer : (old log : Log) (q : ℕ) → Begins old log → length (line_of ol
 longer old log q b = let more = line_grows old log q b in let sum = ap length more.1 ∙ length-append (line_of old q) more.0 in omega arith
 
 -- the header of one more record
-pub used_more : (key : Sizes) (i before header count : ℕ) (rest : Looks) → count ≡ (if header == 0 then before else before + 1) → AreInUse key i before rest → AreInUse key (i + 1) count (Loaded (cell_at key i 0) header ∷ rest)
+pub used_more : (key : Sizes) (i before header count : ℕ) (rest : Looks) → count ≡ (if header % 4 == 0 then before else before + 1) → AreInUse key i before rest → AreInUse key (i + 1) count (Loaded (cell_at key i 0) header ∷ rest)
 used_more key i before header count rest is used =
     let next : AreInUse key (suc i) count (Loaded (cell_at key i 0) header ∷ rest) = (header, before, rest, refl, is, used) in
     let one : suc i ≡ i + 1 = omega arith in

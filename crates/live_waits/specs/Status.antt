@@ -25,7 +25,7 @@ HasFound found m m' = (m'.1 ≡ m.1) × (m'.0 ≡ record m.0 { seen = m'.0.seen;
 -- the headers of this many records were loaded, each once and that of record 0 first; this many of them were in use
 abbrev pub AreInUse : Sizes → ℕ → ℕ → Looks → Type 0
 AreInUse key zero count found = (count ≡ 0) × (found ≡ [])
-AreInUse key (suc i) count found = (header before : ℕ) × (rest : Looks) × (found ≡ Loaded (cell_at key i 0) header ∷ rest) × (count ≡ (if header == 0 then before else before + 1)) × AreInUse key i before rest
+AreInUse key (suc i) count found = (header before : ℕ) × (rest : Looks) × (found ≡ Loaded (cell_at key i 0) header ∷ rest) × (count ≡ (if header % 4 == 0 then before else before + 1)) × AreInUse key i before rest
 
 -- the counts of this many queues were loaded, those of queue 0 first, and of each the finished one before the queued
 -- one; what waits in a queue is what they differ by

@@ -44,7 +44,8 @@ fn records<P: GracePlan, K: ChainRule>(table: &LiveTable<P, K>, seat: &mut LiveS
 {
     let mut records = 0;
     for cell in 0..table.pool {
-        if load_header(table, seat, cell) != 0 {
+        let header = load_header(table, seat, cell);
+        if header % 4 != 0 {
             records += 1;
         }
     }

@@ -21,6 +21,6 @@ pub use step_readers::{
     store_close, store_inner, store_open, store_quiescent, unlock,
 };
 pub use step_records::{
-    draw_number, load_header, load_last, load_number, load_payload, store_discard, store_link,
-    store_retire, store_run, store_word, take_cell,
+    load_header, load_number, load_payload, next_number, store_discard, store_link, store_retire,
+    store_run, store_word, take_cell,
 };

@@ -1,5 +1,5 @@
 -- What a call of a chain's writer does.
-use Rattle.std.specs.Prelude.{◌≡◌, ◌⊎◌, Bool, ℕ, ◌+◌, ◌*◌, ◌^◌, ◌<◌, ◌≤◌, List, [], ◌∷◌, ◌++◌, Some, slice_get}
+use Rattle.std.specs.Prelude.{◌≡◌, ◌⊎◌, Bool, ℕ, ◌+◌, ◌^◌, ◌<◌, ◌≤◌, List, [], ◌∷◌, ◌++◌, Some, slice_get}
 use Rattle.atomic_table.specs.Table.{Me}
 use Rattle.atomic_table.specs.declared.shared.Seat.{Seat}
 use Rattle.rcu_model.specs.declared.event.ObjectId.{ObjectId}
@@ -13,6 +13,7 @@ use Rattle.live_words.specs.live_rule.declared.rights.ChainRight.{ChainRight}
 use Rattle.live_words.specs.live_rule.declared.view.Look.TheVariants.{Loaded, Stored}
 use Rattle.live_words.specs.live_rule.declared.view.Sizes.{Sizes}
 use Rattle.live_words.specs.live_rule.declared.view.View.{View}
+use Rattle.live_words.specs.live_rule.Objects.{fresh_word}
 use Rattle.live_words.specs.live_rule.Places.{cell_at, hold_at}
 use Rattle.live_words.specs.live_rule.Seats.{lent_chains}
 use Rattle.live_words.specs.live_rule.Rights.{cell_in, object_in, own_in}
@@ -131,4 +132,4 @@ KeepsRight v w = (w.object ≡ v.object) × Begins v.seen w.seen
 
 -- a seat has loaded the header of the record of its object, and found this number in it
 abbrev pub LoadsHeader : {S : Type 0} → Bool → (Log → LiveEvent → Type 0) → Sizes → ℕ → Me S View → Me S View → Type 0
-LoadsHeader qsbr allows key number m m' = Went qsbr allows (looked_view (cell_at key (cell_in m.0.object) 0) (2 * number) m.0) m m'
+LoadsHeader qsbr allows key number m m' = Went qsbr allows (looked_view (cell_at key (cell_in m.0.object) 0) (fresh_word number) m.0) m m'

@@ -1,23 +1,22 @@
 //! How records are allocated and discarded.
 
-ghost use Rattle.std.specs.Prelude.{◌≡◌, ◌<◌, ◌≤◌, ◌^◌, List, ◌++◌, ◌∷◌, IfErr, IfOk, length};
+ghost use Rattle.std.specs.Prelude.{◌≡◌, ◌<◌, ◌^◌, List, ◌++◌, ◌∷◌, IfErr, IfOk, length};
 ghost use Rattle.rcu_model.specs.declared.refusal.Refusal.TheVariants.{PoolFull};
 ghost use Rattle.live_log.specs.Log.{Begins, Log};
 ghost use Rattle.live_words.specs.live_rule.declared.view.Look.{Look};
-ghost use Rattle.live_words.specs.live_rule.declared.view.Look.TheVariants.{Stored};
-ghost use Rattle.live_words.specs.live_rule.declared.rights.RecordRight.{RecordRight};
-ghost use Rattle.live_words.specs.live_rule.Places.{cell_at};
 ghost use Rattle.live_words.specs.live_rule.Rights.{IsFresh, cell_in, object_in, payload_in};
 ghost use Rattle.live_words.specs.live_rule.Steps.{Keeps};
 ghost use Rattle.live_read.specs.Hearing.{IsAfter, Stays};
 ghost use Rattle.live_write.specs.Calls.{LoadsSeqBefore};
-ghost use Rattle.live_write.specs.Searching.{Allocates, Fills, GetsNoRecord, Searched, TakesFor};
+ghost use Rattle.live_write.specs.Searching.{Allocates, Fills, GetsNoRecord, Searched, TakesFor, freed_look};
 
 use crate::records::Owned;
-use crate::search::{draw, take_any};
+use crate::search::take_any;
 use gp_memb::GracePlan;
 use live_read::{Caller, Site};
-use live_words::{ChainRule, LiveSeat, LiveTable, load_seq, store_discard, store_word};
+use live_words::{
+    ChainRule, LiveSeat, LiveTable, load_present, load_seq, store_discard, store_word,
+};
 use rcu_model::Refusal;
 use std::marker::PhantomData;
 use std::sync::Wait;
@@ -40,22 +39,22 @@ fn fill<P: GracePlan, K: ChainRule>(
     store_word(table, seat, cell, 3, words[3]);
 }
 
-/// A fresh record with these words, by a seat: answers the record and its object's number.
+/// A fresh record with these words, by a seat: answers the record and its object's number. The search begins at `from`.
 fn take_filled<P: GracePlan, K: ChainRule, R: Wait>(
     rt: &R,
     table: &LiveTable<P, K>,
     seat: &mut LiveSeat,
+    from: u64,
     words: [u64; 4],
 ) -> Result<(usize, u64), Refusal>
-    requires { (seat.old.table_id ≡ table.now.words.shared.table_id) × (seat.old.me.0.sizes ≡ table.now.words.shared.key) }
+    requires seat { (seat.old.table_id ≡ table.now.words.shared.table_id) × (seat.old.me.0.sizes ≡ table.now.words.shared.key) }
     ensures seat { Keeps seat.old seat.new }
-    ensures taken { IfOk result (λ taken. (taken.0 < table.now.pool) × (taken.1 ≤ 2 ^ 62) × Allocates P.QSBR K.allows table.now.words.shared.key taken.0 taken.1 words seat.old.me seat.new.me) }
-    ensures refused { IfErr result (λ e. (e ≡ PoolFull) × (found : List Look) × (x : RecordRight) × Searched P.QSBR K.allows found x seat.old.me seat.new.me × GetsNoRecord table.now.words.shared.key found) }
+    ensures taken { IfOk result (λ taken. (taken.0 < table.now.pool) × (taken.1 < 2 ^ 62) × Allocates P.QSBR K.allows table.now.words.shared.key taken.0 taken.1 words seat.old.me seat.new.me) }
+    ensures refused { IfErr result (λ e. (e ≡ PoolFull) × (found : List Look) × Searched P.QSBR K.allows found seat.old.me.0.object seat.old.me seat.new.me × GetsNoRecord table.now.words.shared.key found) }
 {
-    let Some(number) = draw(rt, table, seat) else {
-        return Err(Refusal::PoolFull);
-    };
-    let Some(cell) = take_any(table, seat, number) else {
+    // A pool may be empty, and the caller hears all the same.
+    load_present(table, seat);
+    let Some((cell, number)) = take_any(rt, table, seat, from) else {
         return Err(Refusal::PoolFull);
     };
     fill(table, seat, cell, words);
@@ -63,11 +62,11 @@ fn take_filled<P: GracePlan, K: ChainRule, R: Wait>(
 }
 
 /// Takes a free record for a new object, whose payload these words become. The caller hears of what it saw. `looks`
-/// tells the words that it found and stored: it draws one number, and takes one record.
+/// tells the words that it found and stored: it takes one record, and the object has the record's next number.
 ///
-/// Refused with `PoolFull` only where it found the header of each record other than 0, or the last object number at or
-/// above 2^62. A number is drawn before a record is looked for, so a refusal by a full pool uses one up. It takes no
-/// memory. It waits for nobody, but tries again where other threads draw numbers meanwhile.
+/// Refused with `PoolFull` only where it found each record in use, or with no number below 2^62 left for another object;
+/// then it stored nothing. It takes no memory. It waits for nobody, but tries again where other threads take and free
+/// the record meanwhile.
 pub fn alloc<P: GracePlan, K: ChainRule, B: Site, W: Caller<B>, R: Wait>(
     rt: &R,
     table: &LiveTable<P, K>,
@@ -81,8 +80,9 @@ pub fn alloc<P: GracePlan, K: ChainRule, B: Site, W: Caller<B>, R: Wait>(
     ensures heard { IsAfter P.QSBR K.allows (W.seen caller.old) (W.heard caller.old) (W.heard caller.new) }
     ensures same { Stays W.Caller caller.old caller.new × (W.loads caller.new ≡ W.loads caller.old) }
 {
+    let from = caller.search_from();
     let mut seat = caller.tell(table);
-    let taken = take_filled(rt, table, &mut seat, words);
+    let taken = take_filled(rt, table, &mut seat, from, words);
     let own = table.cut_object(&mut seat);
     caller.learn(table, seat);
     let (cell, number) = taken?;
@@ -94,23 +94,28 @@ pub fn alloc<P: GracePlan, K: ChainRule, B: Site, W: Caller<B>, R: Wait>(
     })
 }
 
-/// Frees a record that no chain has linked: stores 0 in its header. Its object's number is given to no other. The
-/// caller hears of what was seen at the allocation; the store is kept among the words that were found for it.
+/// Frees a record that no chain has linked: stores four times its object's number in its header. That number is given
+/// to no other. The caller hears of what was seen at the allocation; the store is kept among the words that were found for it.
 pub fn discard<P: GracePlan, K: ChainRule, B: Site, W: Caller<B>>(
     table: &LiveTable<P, K>,
     caller: &mut W,
     owned: Owned<B>,
 )
     requires site { (table.now.words.shared.table_id ≡ B.table) × (table.now.words.shared.key ≡ B.sizes) }
-    ensures freed { W.looks caller.new ≡ Stored (cell_at B.sizes (cell_in owned.seat.me.0.object) 0) 0 ∷ W.looks caller.old }
+    ensures freed { W.looks caller.new ≡ freed_look B.sizes owned.seat.me.0.object ∷ W.looks caller.old }
     ensures heard { IsAfter P.QSBR K.allows (W.seen caller.old) (W.heard caller.old) (W.heard caller.new) × Begins owned.seat.me.0.seen (W.heard caller.new) }
     ensures loads { LoadsSeqBefore W.Caller P.QSBR K.allows caller.old caller.new }
     ensures same { Stays W.Caller caller.old caller.new }
 {
-    let Owned { seat, cell, .. } = owned;
+    let Owned {
+        seat,
+        cell,
+        number,
+        ..
+    } = owned;
     let mut told = caller.tell(table);
     load_seq(table, &mut told);
     table.take_object(&mut told, seat);
-    store_discard(table, &mut told, cell);
+    store_discard(table, &mut told, cell, number);
     caller.learn(table, told);
 }

@@ -19,7 +19,7 @@ pub struct Owned<B: Site> {
     pub(crate) number: u64,
     pub(crate) site: PhantomData<B>,
     pub ghost seated: { (seat.table_id ≡ B.table) × (seat.me.0.sizes ≡ B.sizes) × (seat.me.1 ≡ []) },
-    pub ghost fresh: { IsFresh seat.me.0 × (cell_in seat.me.0.object ≡ cell) × (cell < B.sizes.pool) × (object_in seat.me.0.object ≡ record { 0 = number }) × (number ≤ 2 ^ 62) },
+    pub ghost fresh: { IsFresh seat.me.0 × (cell_in seat.me.0.object ≡ cell) × (cell < B.sizes.pool) × (object_in seat.me.0.object ≡ record { 0 = number }) × (number < 2 ^ 62) },
 }
 
 impl<B: Site> Owned<B> {

@@ -1,5 +1,5 @@
 -- What copies of keys tell, on their way and once each one is in its chain.
-use Rattle.rcu_hash.proofs.Cited.Words.{◌≡◌, ◌≢◌, ◌⊎◌, ℕ, zero, suc, ◌+◌, ◌%◌, ◌<◌, ◌==◌, Bool, if◌then◌else◌, List, [], ◌∷◌, ◌++◌, length, map, take, set, append_assoc, Option, Some, None, slice_get, slice_index_or, refl, sym, ap, ◌∙◌, subst, inl, inr, ⊎_elim, arith, dite, ℕ_discrete, Me, ObjectId, In, at_object_same, in_left, none_some, key_of, rank_of, Falls, Log, IsLiveRun, record_of, payload_of, words_in, IsUnnoted, tabled, begins_trans, tabled_maps, lent_chains, ChainRight, Look, Sizes, View, IsListed, IsWriter, cell_in, object_in, own_in, payload_in, Went, MayPublish, Publishes, list_in, push_by, AreTaken, GetsNoRecord, IsUsedUp, index_has, went_both, value_in, value_of, words_of, comes_above, keys_pushed, note_walked, same_own, value_same, AreApart, AreRanked, value_among, Each, HasKeysIn, HasNoNote, IsAlone, IsEmpty, value_at, slice_get_within, nat_tests, common_steps, gets}
+use Rattle.rcu_hash.proofs.Cited.Words.{◌≡◌, ◌≢◌, ℕ, zero, suc, ◌+◌, ◌%◌, ◌<◌, ◌==◌, Bool, if◌then◌else◌, List, [], ◌∷◌, ◌++◌, length, map, take, set, append_assoc, Option, Some, None, slice_get, slice_index_or, refl, sym, ap, ◌∙◌, subst, inl, inr, ⊎_elim, arith, dite, ℕ_discrete, Me, ObjectId, In, at_object_same, in_left, none_some, key_of, rank_of, Falls, Log, IsLiveRun, record_of, payload_of, words_in, IsUnnoted, tabled, begins_trans, tabled_maps, lent_chains, ChainRight, Look, Sizes, View, IsListed, IsWriter, cell_in, object_in, own_in, payload_in, Went, MayPublish, Publishes, list_in, push_by, AreTaken, index_has, went_both, value_in, value_of, words_of, comes_above, keys_pushed, note_walked, same_own, value_same, AreApart, AreRanked, value_among, Each, HasKeysIn, HasNoNote, IsAlone, IsEmpty, value_at, slice_get_within, nat_tests, common_steps, gets}
 use Rattle.rcu_hash.proofs.Holds.{note_listed}
 
 -- the first of two answers, if there is one
@@ -105,24 +105,16 @@ module _ {X : Type 0} (value : Option X → ℕ → Option ℕ) (buckets : ℕ) 
       (λ same. grind (arith, nat_tests))
       (λ apart. let other = get_set_other vs (e.0 % buckets) (key % buckets) w apart in grind (arith, nat_tests))
 
--- no record was free where none was had
-pub none_free : (sizes : Sizes) (found : List Look) → GetsNoRecord sizes found → IsUsedUp sizes found ⊎ AreTaken sizes found
-none_free sizes found = ⊎_elim (λ u. inl u.0) (λ t. inr t.0)
-
 -- more words that were found before these
-pub found_more : (sizes : Sizes) (found more : List Look) → IsUsedUp sizes found ⊎ AreTaken sizes found → IsUsedUp sizes (found ++ more) ⊎ AreTaken sizes (found ++ more)
-found_more sizes found more = ⊎_elim
-    (λ (u : IsUsedUp sizes found). inl (u.0, in_left found more _ u.1, u.2))
-    (λ (t : AreTaken sizes found). inr (λ i low. let x = t i low in (x.0, in_left found more _ x.1, x.2)))
+pub found_more : (sizes : Sizes) (found more : List Look) → AreTaken sizes found → AreTaken sizes (found ++ more)
+found_more sizes found more t i low = let x = t i low in (x.0, in_left found more _ x.1, x.2)
 
 pub in_behind : {X : Type 0} (xs ys : List X) (x : X) → In ys x → In (xs ++ ys) x
 in_behind [] ys x h = h
 in_behind (y ∷ xs) ys x h = inr (in_behind xs ys x h)
 
-pub found_before : (sizes : Sizes) (more found : List Look) → IsUsedUp sizes found ⊎ AreTaken sizes found → IsUsedUp sizes (more ++ found) ⊎ AreTaken sizes (more ++ found)
-found_before sizes more found = ⊎_elim
-    (λ (u : IsUsedUp sizes found). inl (u.0, in_behind more found _ u.1, u.2))
-    (λ (t : AreTaken sizes found). inr (λ i low. let x = t i low in (x.0, in_behind more found _ x.1, x.2)))
+pub found_before : (sizes : Sizes) (more found : List Look) → AreTaken sizes found → AreTaken sizes (more ++ found)
+found_before sizes more found t i low = let x = t i low in (x.0, in_behind more found _ x.1, x.2)
 
 -- the keys of the list that a writer knows differ
 pub falls_known : (qsbr : Bool) (v : View) → IsLiveRun qsbr tabled v.seen → IsListed v → Falls (record_of v.seen) (list_in v)

@@ -1,5 +1,5 @@
 -- What a call of a bucket's list tells once its writer has heard the caller.
-use Rattle.rcu_hash.proofs.Cited.Words.{Bool, ◌≡◌, ℕ, ◌%◌, List, [], ◌∷◌, ◌++◌, Option, None, IsSome, refl, sym, ap, ◌∙◌, subst, inl, inr, Refusal, Missing, LiveEvent, Log, Begins, begins_trans, Look, Loaded, Stored, Sizes, cell_at, closed_at, IsAfter, OnlyHears, Ghosts, RefusesRetirement, HasLastRank, map_of, FindsNoRecord, GivesBack, stays_both, LeadsTo, directed_map, During, HadIn, LackedThrough, RefusesInsertionThrough, RefusesRemovalThrough, RefusesReplacementThrough, bucket_of}
+use Rattle.rcu_hash.proofs.Cited.Words.{Bool, ◌≡◌, ℕ, ◌%◌, List, [], ◌∷◌, ◌++◌, Option, None, IsSome, refl, sym, ap, ◌∙◌, subst, inl, inr, Refusal, Missing, LiveEvent, Log, Begins, begins_trans, Look, Loaded, Stored, Sizes, free_word, cell_at, closed_at, IsAfter, OnlyHears, Ghosts, RefusesRetirement, HasLastRank, map_of, FindsNoRecord, GivesBack, stays_both, LeadsTo, directed_map, During, HadIn, LackedThrough, RefusesInsertionThrough, RefusesRemovalThrough, RefusesReplacementThrough, bucket_of}
 use Rattle.rcu_list.specs.Refusing as list
 
 -- a log after all that was known later comes after what was known before
@@ -29,7 +29,7 @@ module _ {W S : Type 0} (w : Ghosts W S) (qsbr : Bool) (allows : Log → LiveEve
       cell = r.cell;
       number = r.number;
       took = r.took;
-      looks = r.looks ∙ ap (λ (l : List Look). Stored (cell_at sizes r.cell 0) 0 ∷ Loaded (closed_at sizes queue) r.closed ∷ (r.found ++ l)) hears.0.1;
+      looks = r.looks ∙ ap (λ (l : List Look). Stored (cell_at sizes r.cell 0) (free_word r.number) ∷ Loaded (closed_at sizes queue) r.closed ∷ (r.found ++ l)) hears.0.1;
       at = r.at;
       told = r.told;
       within = (later r.at r.within.0, r.within.1, r.within.2);

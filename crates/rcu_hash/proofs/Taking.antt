@@ -1,6 +1,6 @@
 -- What the keys of buckets tell that are taken one after the other.
-use Rattle.rcu_hash.proofs.Cited.Words.{◌≡◌, ◌≢◌, ℕ, ◌+◌, ◌%◌, ◌<◌, ◌≤◌, ◌==◌, Bool, false, if◌then◌else◌, List, [], ◌∷◌, ◌++◌, length, Some, slice_get, refl, sym, ap, subst, inl, inr, ⊎_elim, arith, cases_lt, dite, ℕ_discrete, In, in_append, in_left, LiveEvent, Log, Begins, begins_trans, hold_at, Look, Loaded, Stored, Sizes, IsAfter, Ghosts, value_among, During, FindsFree, FindsTaken, IsInUse, IsUnused, IsAmong, are_apart, Refusal, PoolFull, cell_at, last_at, stores_in, GetsNoRecord, TakesRecord, FreesAll, FreesAllBut, IsLeftZero, OnlyFrees, nat_tests, common_steps, gets, Option, Looked, GivesUp, KeepsNone, OnlyHears, Stays, stays_both}
-use Rattle.rcu_hash.proofs.Copies.{found_before, found_more, none_free}
+use Rattle.rcu_hash.proofs.Cited.Words.{IsFreeWord, free_word, ◌≡◌, ◌≢◌, ℕ, ◌+◌, ◌%◌, ◌<◌, ◌≤◌, ◌==◌, Bool, false, if◌then◌else◌, List, [], ◌∷◌, ◌++◌, length, Some, slice_get, refl, sym, ap, subst, inl, inr, ⊎_elim, arith, cases_lt, dite, ℕ_discrete, In, in_append, in_left, LiveEvent, Log, Begins, begins_trans, hold_at, Look, Loaded, Stored, Sizes, IsAfter, Ghosts, value_among, During, FindsFree, FindsTaken, IsInUse, IsUnused, IsAmong, are_apart, Refusal, PoolFull, cell_at, stores_in, GetsNoRecord, TakesRecord, FreesAll, FreesAllBut, IsLeftFree, OnlyFrees, nat_tests, common_steps, gets, Option, Looked, GivesUp, KeepsNone, OnlyHears, Stays, stays_both}
+use Rattle.rcu_hash.proofs.Copies.{found_before, found_more}
 use Rattle.rcu_hash.proofs.Holds.{looks_both}
 
 get_last : {X : Type 0} (xs : List X) (x : X) → slice_get (xs ++ x ∷ []) (length xs) ≡ Some x
@@ -82,39 +82,36 @@ stores_both [] ys = refl
 stores_both (Loaded a n ∷ xs) ys = stores_both xs ys
 stores_both (Stored a n ∷ xs) ys = ap (λ (l : List (ℕ × ℕ)). (a, n) ∷ l) (stores_both xs ys)
 
-zero_both : (place : ℕ) (xs ys : List (ℕ × ℕ)) → IsLeftZero place xs → IsLeftZero place ys → IsLeftZero place (xs ++ ys)
-zero_both place [] ys h k = k
-zero_both place (x ∷ xs) ys h k = let rest = zero_both place xs ys in grind arith
+left_free_both : (place : ℕ) (xs ys : List (ℕ × ℕ)) → IsLeftFree place xs → IsLeftFree place ys → IsLeftFree place (xs ++ ys)
+left_free_both place [] ys h k = k
+left_free_both place (x ∷ xs) ys h k = let rest = left_free_both place xs ys in grind arith
 
 -- what was looked at before, and then more
 module _ (key : Sizes) (found more : List Look) where
-  zero_more : (i : ℕ) → IsLeftZero (cell_at key i 0) (stores_in found) → IsLeftZero (cell_at key i 0) (stores_in more) → IsLeftZero (cell_at key i 0) (stores_in (more ++ found))
-  zero_more i h k = subst (IsLeftZero (cell_at key i 0)) (sym (stores_both more found)) (zero_both (cell_at key i 0) (stores_in more) (stores_in found) k h)
+  left_free_more : (i : ℕ) → IsLeftFree (cell_at key i 0) (stores_in found) → IsLeftFree (cell_at key i 0) (stores_in more) → IsLeftFree (cell_at key i 0) (stores_in (more ++ found))
+  left_free_more i h k = subst (IsLeftFree (cell_at key i 0)) (sym (stores_both more found)) (left_free_both (cell_at key i 0) (stores_in more) (stores_in found) k h)
 
   pub frees_both : FreesAll key found → FreesAll key more → FreesAll key (more ++ found)
-  frees_both h k i = zero_more i (h i) (k i)
+  frees_both h k i = left_free_more i (h i) (k i)
 
   pub but_both : (kept all : List ℕ) → ((i : ℕ) → In kept i → In all i) → FreesAllBut key kept found → FreesAllBut key all more → FreesAllBut key all (more ++ found)
   but_both kept all goes h k i = ⊎_elim
       (λ (now : In all i). inl now)
-      (λ (last : IsLeftZero (cell_at key i 0) (stores_in more)). ⊎_elim (λ (was : In kept i). inl (goes i was)) (λ zero. inr (zero_more i zero last)) (h i))
+      (λ (last : IsLeftFree (cell_at key i 0) (stores_in more)). ⊎_elim (λ (was : In kept i). inl (goes i was)) (λ free. inr (left_free_more i free last)) (h i))
       (k i)
 
 module _ (key : Sizes) where
   pub but_weaker : (kept all : List ℕ) → ((i : ℕ) → In kept i → In all i) → (found : List Look) → FreesAllBut key kept found → FreesAllBut key all found
-  but_weaker kept all goes found h i = ⊎_elim (λ (was : In kept i). inl (goes i was)) (λ zero. inr zero) (h i)
+  but_weaker kept all goes found h i = ⊎_elim (λ (was : In kept i). inl (goes i was)) (λ free. inr free) (h i)
 
   -- a search that has a record keeps that one; one that has none, none
   pub keeps_one : (cell n : ℕ) (found : List Look) → TakesRecord key cell n found → FreesAllBut key (cell ∷ []) found
   keeps_one cell n found took i = dite (ℕ_discrete cell i)
       (λ is. inl (inl is))
-      (λ apart. inr (subst (IsLeftZero (cell_at key i 0)) (sym took) (inr (λ (same : cell_at key cell 0 ≡ cell_at key i 0). apart (omega (arith, same)), inr (λ (same : last_at key ≡ cell_at key i 0). omega (arith, same), tt)))))
+      (λ apart. inr (subst (IsLeftFree (cell_at key i 0)) (sym took.1) (inr (λ (same : cell_at key cell 0 ≡ cell_at key i 0). apart (omega (arith, same)), tt))))
 
   none_taken : (found : List Look) → GetsNoRecord key found → FreesAll key found
-  none_taken found none i = ⊎_elim
-      (λ up. subst (IsLeftZero (cell_at key i 0)) (sym up.1) tt)
-      (λ full. subst (IsLeftZero (cell_at key i 0)) (sym full.1.1.stores) (inr (λ (same : last_at key ≡ cell_at key i 0). omega (arith, same), tt)))
-      none
+  none_taken found none i = subst (IsLeftFree (cell_at key i 0)) (sym none.1) tt
 
   -- the words that were found and stored are hold words of a chain, or of chains
   pub holds_none : (chain : ℕ) → chain < key.chains → FreesAll key (Stored (hold_at key chain) 1 ∷ Loaded (hold_at key chain) 0 ∷ [])
@@ -127,12 +124,12 @@ module _ (key : Sizes) where
       inr (λ (same : a ≡ cell_at key i 0). omega (arith, low, place, same), only_free found (λ place word h. only place word (inr h)) i)
 
   -- the first record of some is freed
-  pub frees_one : (cell : ℕ) (kept : List ℕ) (found : List Look) → FreesAllBut key (cell ∷ kept) found → FreesAllBut key kept (Stored (cell_at key cell 0) 0 ∷ found)
-  frees_one cell kept found h i = dite (ℕ_discrete cell i)
-      (λ is. inr (inl (ap (λ (k : ℕ). cell_at key k 0) is, refl)))
+  pub frees_one : (cell word : ℕ) (kept : List ℕ) (found : List Look) → IsFreeWord word → FreesAllBut key (cell ∷ kept) found → FreesAllBut key kept (Stored (cell_at key cell 0) word ∷ found)
+  frees_one cell word kept found free h i = dite (ℕ_discrete cell i)
+      (λ is. inr (inl (ap (λ (k : ℕ). cell_at key k 0) is, free)))
       (λ apart. ⊎_elim
       (λ (one : In (cell ∷ kept) i). ⊎_elim (λ is. absurd (apart is)) (λ more. inl more) one)
-      (λ (zero : IsLeftZero (cell_at key i 0) (stores_in found)). inr (inr (λ (same : cell_at key cell 0 ≡ cell_at key i 0). apart (omega (arith, same)), zero)))
+      (λ (before : IsLeftFree (cell_at key i 0) (stores_in found)). inr (inr (λ (same : cell_at key cell 0 ≡ cell_at key i 0). apart (omega (arith, same)), before)))
       (h i))
 
 -- a part of a call that made no change, and what came after it
@@ -174,27 +171,27 @@ module _ {W S : Type 0} {w : Ghosts W S} {key : Sizes} where
   took_one cell n a b same heard found looks took = record { stays = same.0; heard = heard; loads = same.1; found = found; looks = looks; freed = keeps_one key cell n found took }
 
   pub took_none : (e : Refusal) (a b : W) → Stays w a b × (w.loads b ≡ w.loads a) → Begins (w.heard a) (w.heard b) → (found : List Look) → w.looks b ≡ found ++ w.looks a → GetsNoRecord key found → GivesUp w key [] [] e a b
-  took_none e a b same heard found looks none = (record { stays = same.0; heard = heard; loads = same.1; found = found; looks = looks; freed = λ i. inr (none_taken key found none i) }, λ full. none_free key found none)
+  took_none e a b same heard found looks none = (record { stays = same.0; heard = heard; loads = same.1; found = found; looks = looks; freed = λ i. inr (none_taken key found none i) }, λ full. none.0)
 
   -- it is refused, but for no full pool
   pub gives_up_other : {kept : List ℕ} {logs : List Log} {e : Refusal} {a b : W} → e ≢ PoolFull → Looked w key kept logs a b → GivesUp w key kept logs e a b
   gives_up_other other x = (x, λ full. absurd (other full))
 
   -- and it frees the first record that it kept
-  pub gives_up_less : (cell : ℕ) (kept : List ℕ) (logs : List Log) (log : Log) (e : Refusal) (a b c : W) → GivesUp w key (cell ∷ kept) logs e a b →
-      Stays w b c → Begins (w.heard b) (w.heard c) → w.loads c ≡ log ∷ w.loads b → w.looks c ≡ Stored (cell_at key cell 0) 0 ∷ w.looks b → GivesUp w key kept (log ∷ logs) e a c
-  gives_up_less cell kept logs log e a b c x stays heard loads looks = (
+  pub gives_up_less : (cell n : ℕ) (kept : List ℕ) (logs : List Log) (log : Log) (e : Refusal) (a b c : W) → GivesUp w key (cell ∷ kept) logs e a b →
+      Stays w b c → Begins (w.heard b) (w.heard c) → w.loads c ≡ log ∷ w.loads b → w.looks c ≡ Stored (cell_at key cell 0) (free_word n) ∷ w.looks b → GivesUp w key kept (log ∷ logs) e a c
+  gives_up_less cell n kept logs log e a b c x stays heard loads looks = (
     record {
       stays = stays_both w a b c x.0.stays stays;
       heard = begins_trans (w.heard a) (w.heard b) (w.heard c) x.0.heard heard;
       loads = looks_both (w.loads a) (w.loads b) (w.loads c) logs (log ∷ []) x.0.loads loads;
-      found = Stored (cell_at key cell 0) 0 ∷ x.0.found;
-      looks = looks_both (w.looks a) (w.looks b) (w.looks c) x.0.found (Stored (cell_at key cell 0) 0 ∷ []) x.0.looks looks;
-      freed = frees_one key cell kept x.0.found x.0.freed;
+      found = Stored (cell_at key cell 0) (free_word n) ∷ x.0.found;
+      looks = looks_both (w.looks a) (w.looks b) (w.looks c) x.0.found (Stored (cell_at key cell 0) (free_word n) ∷ []) x.0.looks looks;
+      freed = frees_one key cell (free_word n) kept x.0.found (omega arith) x.0.freed;
     },
-    λ full. found_before key (Stored (cell_at key cell 0) 0 ∷ []) x.0.found (x.1 full),
+    λ full. found_before key (Stored (cell_at key cell 0) (free_word n) ∷ []) x.0.found (x.1 full),
   )
 
   -- what that tells of the records that a call keeps
   pub keeps_none_of : {logs : List Log} {e : Refusal} {a b : W} → GivesUp w key [] logs e a b → (found : List Look) × (w.looks b ≡ found ++ w.looks a) × Unit {0} × KeepsNone key e found
-  keeps_none_of x = (x.0.found, x.0.looks, tt, (x.1, λ i. ⊎_elim (λ none. absurd none) (λ zero. zero) (x.0.freed i)))
+  keeps_none_of x = (x.0.found, x.0.looks, tt, (x.1, λ i. ⊎_elim (λ none. absurd none) (λ free. free) (x.0.freed i)))

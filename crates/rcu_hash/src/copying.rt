@@ -6,7 +6,7 @@ ghost use Rattle.live_log.specs.Tables.{tabled};
 ghost use Rattle.rcu_list.specs.live_rule.Rights.{cell_in, payload_in};
 ghost use Rattle.rcu_list.specs.live_rule.Steps.{Keeps, Went};
 ghost use Rattle.rcu_list.specs.live_read.Hearing.{OnlyMakesMany};
-ghost use Rattle.rcu_list.specs.live_write.Searching.{NoRecordIsFree};
+ghost use Rattle.rcu_list.specs.live_write.Searching.{AreTaken};
 ghost use Rattle.rcu_list.specs.Maps.{words_of};
 ghost use Rattle.rcu_model.specs.Sets.{In};
 ghost use Rattle.rcu_model.specs.declared.refusal.Refusal.TheVariants.{Memory, PoolFull};
@@ -47,7 +47,7 @@ fn copy_key<P: GracePlan + Drop, B: Site, D: Deleter, W: Caller<B>, R: Wait>(
     ensures cells { (i : ℕ) → In (map (λ c. cell_in c.owned.seat.me.0.object) copied.old.items) i → In (map (λ c. cell_in c.owned.seat.me.0.object) copied.new.items) i }
     ensures ranks { IfOk result (λ _. map (λ c. c.rank) copied.new.items ≡ map (λ c. c.rank) copied.old.items ++ vec_len copied.old ∷ []) }
     ensures refused { IfErr result (λ e. (copied.new.items ≡ copied.old.items) × ((e ≡ Memory) ⊎ (e ≡ PoolFull))) }
-    ensures same { (l : Looked W.Caller B.sizes (map (λ c. cell_in c.owned.seat.me.0.object) copied.new.items) [] caller.old caller.new) × IfErr result (λ e. (e ≡ PoolFull) → NoRecordIsFree B.sizes l.found) }
+    ensures same { (l : Looked W.Caller B.sizes (map (λ c. cell_in c.owned.seat.me.0.object) copied.new.items) [] caller.old caller.new) × IfErr result (λ e. (e ≡ PoolFull) → AreTaken B.sizes l.found) }
 {
     if copied.reserve(1).is_err() {
         return Err(Refusal::Memory);
@@ -80,7 +80,7 @@ impl<'d, P: GracePlan + Drop, B: Site, D: Deleter> Bucket<'d, P, B, D> {
         ensures cells { (i : ℕ) → In (map (λ c. cell_in c.owned.seat.me.0.object) copied.old.items) i → In (map (λ c. cell_in c.owned.seat.me.0.object) copied.new.items) i }
         ensures apart { IfOk result (λ _. AreApart (map (λ c. (c.key, c.value)) copied.new.items) × AreRanked 0 (map (λ c. c.rank) copied.new.items)) }
         ensures refused { IfErr result (λ e. (e ≡ Memory) ⊎ (e ≡ PoolFull)) }
-        ensures same { (l : Looked W.Caller B.sizes (map (λ c. cell_in c.owned.seat.me.0.object) copied.new.items) [] caller.old caller.new) × IfErr result (λ e. (e ≡ PoolFull) → NoRecordIsFree B.sizes l.found) }
+        ensures same { (l : Looked W.Caller B.sizes (map (λ c. cell_in c.owned.seat.me.0.object) copied.new.items) [] caller.old caller.new) × IfErr result (λ e. (e ≡ PoolFull) → AreTaken B.sizes l.found) }
         ensures walked { (self.new.naming ≡ self.old.naming) × Keeps self.old.chain.seat self.new.chain.seat × Went P.QSBR tabled self.old.chain.seat.me.0 self.old.chain.seat.me self.new.chain.seat.me × (self.new.chain.number ≡ self.old.chain.number) × (self.new.chain.home.now ≡ self.old.chain.home.now) }
     {
         // By this load the writer sees a run, also where the chain is empty.

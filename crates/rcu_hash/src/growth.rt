@@ -5,7 +5,7 @@ ghost use Rattle.rcu_model.specs.declared.refusal.Refusal.TheVariants.{BadConfig
 ghost use Rattle.live_log.specs.Log.{Log};
 ghost use Rattle.live_log.specs.Tables.{tabled};
 ghost use Rattle.rcu_list.specs.live_rule.Rights.{cell_in, payload_in};
-ghost use Rattle.rcu_list.specs.live_write.Searching.{NoRecordIsFree};
+ghost use Rattle.rcu_list.specs.live_write.Searching.{AreTaken};
 ghost use Rattle.rcu_hash.specs.Copies.{AreApart, AreRanked, value_among, value_in_bucket};
 ghost use Rattle.rcu_hash.specs.Freeing.{GivesUp, Looked, Undoes};
 ghost use Rattle.rcu_hash.specs.Naming.{words_by};
@@ -98,7 +98,7 @@ fn copy_all<'d, P: GracePlan + Drop, B: Site, D: Deleter, W: Caller<B>, R: Wait>
     ensures taken { IfOk result (λ _. (vec_len taken.new ≡ array.now.naming.buckets) × AreFrom array.now.naming.first (map (λ b. b.chain.seat.me.0) taken.new.items) × Each (λ b. b.naming ≡ array.now.naming) taken.new.items) }
     ensures many { vec_len taken.new ≤ array.now.naming.buckets }
     ensures refused { IfErr result (λ e. (e ≡ Memory) ⊎ (e ≡ PoolFull)) }
-    ensures same { (l : Looked W.Caller B.sizes (map (λ c. cell_in c.owned.seat.me.0.object) copied.new.items) [] caller.old caller.new) × IfErr result (λ e. (e ≡ PoolFull) → NoRecordIsFree B.sizes l.found) }
+    ensures same { (l : Looked W.Caller B.sizes (map (λ c. cell_in c.owned.seat.me.0.object) copied.new.items) [] caller.old caller.new) × IfErr result (λ e. (e ≡ PoolFull) → AreTaken B.sizes l.found) }
 {
     for number in 0..array.naming.buckets {
         let (_place, mut bucket) = array.take(rt, number);

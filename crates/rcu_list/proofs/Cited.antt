@@ -9,19 +9,19 @@ pub use Rattle.domain.specs.live_read.Holding.{MayHold, log_of}
 pub use Rattle.domain.specs.live_read.Reads.{FindsFirst, FindsNext, Looks}
 pub use Rattle.domain.specs.live_read.declared.caller.Caller.{Ghosts}
 pub use Rattle.domain.specs.live_read.declared.reader_core.ReaderCore.{ReaderCore}
-pub use Rattle.domain.specs.live_rule.Places.{cell_at, closed_at}
+pub use Rattle.domain.specs.live_rule.Places.{closed_at}
 pub use Rattle.domain.specs.live_rule.Rights.{AreAsKnown, IsListed, IsWriter, cell_in, object_in, own_in, payload_in}
 pub use Rattle.domain.specs.live_rule.Seats.{lent_chains}
 pub use Rattle.domain.specs.live_rule.Steps.{IsLater, Went}
 pub use Rattle.domain.specs.live_rule.declared.rights.ChainRight.{ChainRight}
 pub use Rattle.domain.specs.live_rule.declared.rights.RecordRight.{RecordRight}
 pub use Rattle.domain.specs.live_rule.declared.view.Look.{Look}
-pub use Rattle.domain.specs.live_rule.declared.view.Look.TheVariants.{Loaded, Stored}
+pub use Rattle.domain.specs.live_rule.declared.view.Look.TheVariants.{Loaded}
 pub use Rattle.domain.specs.live_rule.declared.view.Sizes.{Sizes}
 pub use Rattle.domain.specs.live_rule.declared.view.View.{View}
 pub use Rattle.domain.specs.live_write.Calls.{HasLearned, LoadsSeqBefore}
 pub use Rattle.domain.specs.live_write.Chains.{GoesOn, IsFirstWith, MayPublish, Publishes, list_in, push_by, replace_by}
-pub use Rattle.domain.specs.live_write.Searching.{TakesFor, TakesRecord}
+pub use Rattle.domain.specs.live_write.Searching.{TakesFor, TakesRecord, freed_look}
 pub use Rattle.domain.specs.step_chains.Chains.{cut_of}
 pub use Rattle.live_log.proofs.Lemmas.{begins_trans, chain_used, falls_cut, falls_push, falls_replaced, falls_same, kept_log, not_has, note_stays, run_of}
 pub use Rattle.live_log.specs.Keys.{Falls, key_of, rank_of}

@@ -1,5 +1,5 @@
 -- A caller takes a record, its retirement is refused, and it frees the record.
-use Rattle.rcu_list.proofs.Cited.{Bool, ◌≡◌, ℕ, ◌∷◌, List, ap, sym, ◌∙◌, subst, Refusal, LiveEvent, Log, Begins, begins_trans, cell_at, closed_at, RecordRight, Look, Loaded, Stored, Sizes, IsAfter, Stays, Ghosts, RefusesRetirement, cell_in, object_in, LoadsSeqBefore, TakesFor, TakesRecord}
+use Rattle.rcu_list.proofs.Cited.{Bool, ◌≡◌, ℕ, ◌∷◌, List, ap, sym, ◌∙◌, subst, Refusal, LiveEvent, Log, Begins, begins_trans, closed_at, RecordRight, Look, Loaded, Sizes, IsAfter, Stays, Ghosts, RefusesRetirement, cell_in, object_in, LoadsSeqBefore, TakesFor, TakesRecord, freed_look}
 use Rattle.rcu_list.specs.Refusing.{GivesBack}
 use Rattle.rcu_list.proofs.Writing.{stays_both}
 
@@ -7,15 +7,15 @@ use Rattle.rcu_list.proofs.Writing.{stays_both}
 pub gives_back : {W S : Type 0} (w : Ghosts W S) (qsbr : Bool) (allows : Log → LiveEvent → Type 0) (sizes : Sizes) (a b c d : W) (e : Refusal) (queue : ℕ) (x y : RecordRight) → y ≡ x
     → Stays w a b → w.loads b ≡ w.loads a → Begins (w.heard a) (w.heard b) → TakesFor w sizes a b x
     → RefusesRetirement w qsbr allows sizes queue b c e
-    → w.looks d ≡ Stored (cell_at sizes (cell_in y) 0) 0 ∷ w.looks c → IsAfter qsbr allows (w.seen c) (w.heard c) (w.heard d) → LoadsSeqBefore w qsbr allows c d → Stays w c d
+    → w.looks d ≡ freed_look sizes y ∷ w.looks c → IsAfter qsbr allows (w.seen c) (w.heard c) (w.heard d) → LoadsSeqBefore w qsbr allows c d → Stays w c d
     → GivesBack w qsbr allows sizes a d e queue
 gives_back w qsbr allows sizes a b c d e queue x y same stays loads later took r freed heard load last = record {
   found = took.0;
-  number = (object_in x).0;
-  took = subst (λ (z : RecordRight). TakesRecord sizes (cell_in z) (object_in x).0 took.0) (sym same) took.2;
+  number = (object_in y).0;
+  took = subst (λ (z : RecordRight). TakesRecord sizes (cell_in z) (object_in z).0 took.0) (sym same) took.2;
   closed = r.closed;
   cell = cell_in y;
-  looks = freed ∙ ap (λ (l : List Look). Stored (cell_at sizes (cell_in y) 0) 0 ∷ l) (r.looked ∙ ap (λ (l : List Look). Loaded (closed_at sizes queue) r.closed ∷ l) took.1);
+  looks = freed ∙ ap (λ (l : List Look). freed_look sizes y ∷ l) (r.looked ∙ ap (λ (l : List Look). Loaded (closed_at sizes queue) r.closed ∷ l) took.1);
   at = w.heard c;
   told = r.told;
   within = (

@@ -4,6 +4,7 @@ use Rattle.rcu_model.specs.declared.refusal.Refusal.{Refusal}
 use Rattle.rcu_model.specs.declared.refusal.Refusal.TheVariants.{Closed, Exists, Memory, Missing, PoolFull}
 use Rattle.live_log.specs.declared.event.LiveEvent.{LiveEvent}
 use Rattle.live_log.specs.Log.{Log, Begins, IsLiveRun, closed_of}
+use Rattle.domain.specs.live_rule.Objects.{free_word}
 use Rattle.domain.specs.live_rule.Places.{cell_at, closed_at}
 use Rattle.domain.specs.live_rule.declared.view.Look.{Look}
 use Rattle.domain.specs.live_rule.declared.view.Look.TheVariants.{Loaded, Stored}
@@ -30,7 +31,7 @@ module _ {W S : Type 0} (w : Ghosts W S) (qsbr : Bool) (allows : Log → LiveEve
     pub cell : ℕ
     pub number : ℕ
     pub took : TakesRecord sizes cell number found
-    pub looks : w.looks new ≡ Stored (cell_at sizes cell 0) 0 ∷ Loaded (closed_at sizes queue) closed ∷ (found ++ w.looks old)
+    pub looks : w.looks new ≡ Stored (cell_at sizes cell 0) (free_word number) ∷ Loaded (closed_at sizes queue) closed ∷ (found ++ w.looks old)
     pub at : Log
     pub told : closed ≡ closed_of queue at
     pub within : IsAfter qsbr allows (w.seen old) (w.heard old) at × Begins at (w.heard new) × IsLiveRun qsbr allows (w.heard new)

@@ -5,8 +5,8 @@ pub use Rattle.live_rule.proofs.Lemmas.{Calm, Enters, SameChain, Unclaimed, aliv
 pub use Rattle.live_rule.proofs.live_log.Lemmas.{Moved, begins_trans, chain_used, cut_moves, falls_cut, falls_push, falls_replaced, falls_same, first_linked, first_used, head_no_link, kept_log, last_opened, leads_still, link_is, linked_here, next_linked, next_used, not_has, note_stays, open_inside, protected, push_moves, replace_moves, run_of, some_next, was_later, was_used}
 pub use Rattle.live_rule.proofs.rcu_model.Lemmas.{Once, at_number_same, at_object_other, at_object_same, follows_has, has_object_in, has_section_in, in_objects, none_some, some_is}
 pub use Rattle.live_rule.specs.Claims.{ClaimsChain, ClaimsObject, ClaimsSlot, KnowsChain, KnowsObject, KnowsOwned, KnowsSlot, chain, object, slot}
-pub use Rattle.live_rule.specs.Objects.{Header, HoldWords, IsAlive, IsLive, IsPayload, QueueWords, ref, spot_at}
-pub use Rattle.live_rule.specs.Places.{cell_at, chains_from, closed_at, finished_at, head_at, hold_at, last_at, note_at, queued_at, words_of, work_at}
+pub use Rattle.live_rule.specs.Objects.{Header, HoldWords, IsAlive, IsLive, IsPayload, QueueWords, ref, spot_at, last_in}
+pub use Rattle.live_rule.specs.Places.{cell_at, chains_from, closed_at, finished_at, head_at, hold_at, note_at, queued_at, words_of, work_at}
 pub use Rattle.live_rule.specs.Readers.{Fits}
 pub use Rattle.live_rule.specs.Rights.{AreAsKnown, IsFresh, IsListed, IsWriter, cell_in, count_in, link_in, object_in, own_in, payload_in, word_in}
 pub use Rattle.live_rule.specs.Rule.{KeepsRule}
@@ -27,7 +27,7 @@ pub use Rattle.live_rule.specs.live_log.declared.event.ObjectEvent.TheVariants.{
 pub use Rattle.live_rule.specs.rcu_model.Machine.{IsOpen}
 pub use Rattle.live_rule.specs.rcu_model.Sets.{In, IsPlace, at_object, first_of, follows, next_of, replaced, without_object}
 pub use Rattle.live_rule.specs.rcu_model.declared.event.ObjectId.{ObjectId}
-pub use Rattle.std.proofs.Common.{Bool, List, None, Option, Some, [], ap, arith, cond, eq-eqb, eqb, false, get_or, get_or-set_other, get_or-set_same, inl, inr, length, map, ne_eqb, refl, set, subst, sym, true, ℕ, ⊎_elim, ◌+◌, ◌/◌, ◌<◌, ◌==◌, ◌||◌, ◌∙◌, ◌∷◌, ◌≡◌, ◌≢◌, ◌≤◌, ◌⊎◌}
+pub use Rattle.std.proofs.Common.{Bool, List, None, Option, Some, [], ap, arith, cond, eq-eqb, eqb, false, get_or, get_or-set_other, get_or-set_same, inl, inr, length, map, ne_eqb, refl, set, subst, sym, true, ℕ, ⊎_elim, ◌%◌, ◌+◌, ◌/◌, ◌<◌, ◌==◌, ◌||◌, ◌∙◌, ◌∷◌, ◌≡◌, ◌≢◌, ◌≤◌, ◌⊎◌}
 pub use Rattle.std.proofs.lemmas.List.{length-map}
 pub use Rattle.std.proofs.lemmas.Map.Steps.{length-le_from_distinct_below}
 pub use Rattle.std.specs.List.{AllByRecursion, list_any}

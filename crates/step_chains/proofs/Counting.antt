@@ -1,5 +1,5 @@
 -- A chain has no more objects than there are records.
-use Rattle.step_chains.proofs.Cited.{◌≡◌, ◌≢◌, ℕ, ◌<◌, ◌≤◌, ◌/◌, ◌||◌, List, [], ◌∷◌, Bool, true, false, map, eqb, length, get_or, sym, refl, ap, ◌∙◌, subst, inl, inr, ne_eqb, dite, ℕ_discrete, get_elem?, length-map, AllByRecursion, IsDistinct, list_any, length-le_from_distinct_below, State, ObjectId, In, Once, LiveEvent, Log, record_of, objects_of, kept_log, Sizes, View, cell_at, IsAlive, KeepsRule, own_in, knows_own, here, alive_linked, lows}
+use Rattle.step_chains.proofs.Cited.{last_in, ◌≡◌, ◌≢◌, ℕ, ◌<◌, ◌≤◌, ◌||◌, List, [], ◌∷◌, Bool, true, false, map, eqb, length, sym, refl, ap, ◌∙◌, subst, inl, inr, ne_eqb, dite, ℕ_discrete, get_elem?, length-map, AllByRecursion, IsDistinct, list_any, length-le_from_distinct_below, State, ObjectId, In, Once, LiveEvent, Log, record_of, objects_of, kept_log, Sizes, View, IsAlive, KeepsRule, own_in, knows_own, here, alive_linked, lows}
 use mathlib.Core.Option as lists
 use Rattle.step_chains.specs.Chains.{FitsPool}
 
@@ -32,4 +32,4 @@ fits_pool qsbr allows key s r id v at sizes own = few (λ o. (record_of r.log o)
     once = subst Once (knows_own qsbr allows key s r id v at own).3 ((kept_log qsbr allows r.log r.run).linking.once (own_in v.chains).chain)
 
     one : (o q : ObjectId) → In (own_in v.chains).objects o → In (own_in v.chains).objects q → (record_of r.log o).0 ≡ (record_of r.log q).0 → o ≡ q
-    one o q h k e = let half : o.0 ≡ q.0 = sym (r.agree.heap.header o (alive o h)).half ∙ (ap (λ (i : ℕ). get_or s.words (cell_at key i 0) 0 / 2) e ∙ (r.agree.heap.header q (alive q k)).half) in λ j. record { 0 = half j }
+    one o q h k e = let same : o.0 ≡ q.0 = sym (r.agree.heap.header o (alive o h)).number ∙ (ap (last_in key s.words) e ∙ (r.agree.heap.header q (alive q k)).number) in λ j. record { 0 = same j }

@@ -1,5 +1,5 @@
 -- What the writer of a chain knows of it at a step, and the one step of a push, a replacement and a cut.
-use Rattle.step_chains.proofs.Cited.{◌≡◌, ◌≢◌, ◌⊎◌, ℕ, ◌+◌, ◌/◌, ◌<◌, ◌≤◌, List, ◌∷◌, Bool, length, get_or, set, sym, refl, ap, ◌∙◌, subst, inl, inr, ⊎_elim, arith, get_or-set_other, get_or-set_same, Option, Some, None, option_or, IfSome, dite, ℕ_discrete, get_elem?, State, ObjectId, In, IsPlace, first_of, LiveEvent, Object, ObjectEvent, Log, state_of, record_of, IsLiveRun, Objects, objects_of, Spot, head, link, spot_of, Leads, kept_log, note_stays, run_of, chain_used, first_used, next_used, Moved, leads_still, link_is, head_no_link, Sizes, View, ChainRight, RecordRight, chains_from, head_at, hold_at, note_at, queued_at, closed_at, finished_at, work_at, last_at, cell_at, words_of, ref, IsLive, spot_at, IsPayload, Header, object, ClaimsChain, ClaimsObject, KnowsOwned, KnowsChain, KnowsObject, lent_chains, KeepsRule, Unclaimed, calm_object, SameChain, chain_part, lines_far, guards_far, Enters, heap_spliced, same_object_moved, free_cell, same_spot, object_stays, queues_kept, works_kept, stores, own_in, IsWriter, IsListed, alive_linked, unclaimed}
+use Rattle.step_chains.proofs.Cited.{◌≡◌, ◌≢◌, ◌⊎◌, ℕ, ◌+◌, ◌%◌, last_in, ◌<◌, ◌≤◌, List, ◌∷◌, Bool, length, get_or, set, sym, refl, ap, ◌∙◌, subst, inl, inr, ⊎_elim, arith, get_or-set_other, get_or-set_same, Option, Some, None, option_or, IfSome, dite, ℕ_discrete, get_elem?, State, ObjectId, In, IsPlace, first_of, LiveEvent, Object, ObjectEvent, Log, state_of, record_of, IsLiveRun, Objects, objects_of, Spot, head, link, spot_of, Leads, kept_log, note_stays, run_of, chain_used, first_used, next_used, Moved, leads_still, link_is, head_no_link, Sizes, View, ChainRight, RecordRight, chains_from, head_at, hold_at, note_at, queued_at, closed_at, finished_at, work_at, cell_at, words_of, ref, IsLive, spot_at, IsPayload, Header, object, ClaimsChain, ClaimsObject, KnowsOwned, KnowsChain, KnowsObject, lent_chains, KeepsRule, Unclaimed, calm_object, SameChain, chain_part, lines_far, guards_far, Enters, heap_spliced, same_object_moved, free_cell, same_spot, object_stays, queues_kept, works_kept, stores, own_in, IsWriter, IsListed, alive_linked, unclaimed}
 use mathlib.Core.Option as lists
 use Rattle.live_rule.specs.declared.rights.RecordRight.TheVariants as record_right
 use Rattle.live_rule.proofs.Lemmas as writer
@@ -48,7 +48,6 @@ module _ {S : Type 0} (qsbr : Bool) (allows : Log → LiveEvent → Type 0) (key
     where
       no : (x : RecordRight) → ClaimsObject x o → KnowsObject qsbr key r.log s.words (objects_of r.log) x → ⊥
       no record_right.Nothing c k = c
-      no (record_right.Drawn p) c k = k.0 (subst (In (state_of r.log).used) (sym c) (chain_used qsbr allows r.log (own_in v.chains).chain o r.run (here o h)))
       no (record_right.Fresh i p l w) c k = k.0 (subst (In (state_of r.log).used) (sym c) (chain_used qsbr allows r.log (own_in v.chains).chain o r.run (here o h)))
       no (record_right.Unlinked i p) c k = (kept_log qsbr allows r.log r.run).linking.linked_not_cut (own_in v.chains).chain o (here o h) (subst (In (state_of r.log).cut) c k.0)
       no (record_right.Retired i p) c k = let l = (kept_log qsbr allows r.log r.run).linking in l.linked_not_cut (own_in v.chains).chain o (here o h) (l.retired_cut o (subst (In (state_of r.log).retired) c k.0))
@@ -83,17 +82,23 @@ module _ {S : Type 0} (qsbr : Bool) (allows : Log → LiveEvent → Type 0) (key
 
   -- the record of a seat's own object enters
   pub enters_fresh : (now : Objects) (next : Option ObjectId) (i : ℕ) (o : ObjectId) (l : ℕ) (w : List ℕ) → KnowsObject qsbr key r.log s.words (objects_of r.log) (record_right.Fresh i o l w) → now.note o ≡ (i, w) → now.retired ≡ (objects_of r.log).retired → l ≡ ref now next → Enters key now s.words next o
-  enters_fresh now next i o l w k note retired e = let header = k.4 in let half : get_or s.words (cell_at key i 0) 0 / 2 ≡ o.0 = omega arith in record {
-    number = (k.1, k.2);
-    low = subst (λ (z : ℕ × List ℕ). z.0 < key.pool) (sym note) k.3;
+  enters_fresh now next i o l w k note retired e = let header = k.3 in let last : last_in key s.words i ≡ o.0 = omega arith in record {
+    number = (k.1, own_number i o.0 k.1 last);
+    low = subst (λ (z : ℕ × List ℕ). z.0 < key.pool) (sym note) k.2;
     header = subst (λ (z : ℕ × List ℕ). Header now o (get_or s.words (cell_at key z.0 0) 0)) (sym note) (record {
-      half = half;
-      fresh = λ _. k.4;
+      number = last;
+      fresh = λ _. k.3;
       retired = λ t. let u = kept_log qsbr allows r.log r.run in absurd (k.0 (u.linking.cut_used o (u.linking.retired_cut o (subst (λ (z : List ObjectId). In z o) retired t))));
     });
-    link = subst (λ (z : ℕ × List ℕ). get_or s.words (cell_at key z.0 1) 0 ≡ ref now next) (sym note) (k.5 ∙ e);
-    payload = subst (λ (z : ℕ × List ℕ). IsPayload key s.words z.0 z.1) (sym note) k.7;
+    link = subst (λ (z : ℕ × List ℕ). get_or s.words (cell_at key z.0 1) 0 ≡ ref now next) (sym note) (k.4 ∙ e);
+    payload = subst (λ (z : ℕ × List ℕ). IsPayload key s.words z.0 z.1) (sym note) k.6;
   }
+    where
+      -- the last number of a record is its own
+      own_number : (i m : ℕ) → 1 ≤ m → last_in key s.words i ≡ m → m ≤ last_in key s.words (m % key.pool)
+      own_number i m up last = ⊎_elim (λ (none : last_in key s.words i ≡ 0). absurd (omega arith))
+          (λ (own : last_in key s.words i % key.pool ≡ i). let same : m % key.pool ≡ i = ap (λ (n : ℕ). n % key.pool) (sym last) ∙ own in let here : last_in key s.words (m % key.pool) ≡ m = ap (last_in key s.words) same ∙ last in omega arith)
+          (r.agree.heap.own i)
 
   module _ (d : ObjectEvent) (p next leaves enters : Option ObjectId) (x h' : ℕ) (os' : List ObjectId) (w : View) (run : IsLiveRun qsbr allows (Object d ∷ r.log)) (moved : Moved (objects_of r.log) (objects_of (Object d ∷ r.log)) (own_in v.chains).chain p next leaves enters) where
     abbrev log : Log
@@ -116,7 +121,6 @@ module _ {S : Type 0} (qsbr : Bool) (allows : Log → LiveEvent → Type 0) (key
         let inside : a < length s.words = in_table p live in
         let far : (e : ℕ) → e < key.chains → e ≢ c → SameChain key r.log log s.words (set s.words a x) e = λ e low ne. (get_or-set_other s.words a (hold_at key e) x 0 (no_hold p e low), get_or-set_other s.words a (head_at key e) x 0 (no_head p e low ne), moved.else e ne, refl) in
         let hold : get_or (set s.words a x) (hold_at key c) 0 ≡ 1 = get_or-set_other s.words a (hold_at key c) x 0 (no_hold p c knows_own.0) ∙ knows_own.1 in
-        let last : get_or (set s.words a x) (last_at key) 0 ≡ get_or s.words (last_at key) 0 = get_or-set_other s.words a (last_at key) x 0 (no_last p knows_own.0) in
         let heap = heap_spliced key (objects_of r.log) (objects_of log) s.words c p next leaves enters x moved still (λ t o f. leads_used qsbr allows r.log t o r.run f) (λ o found f. follower_used qsbr allows r.log o found r.run f) (λ m e. (entering m e).0) knows_own.0 live stored r.agree.heap inside in (
           stores qsbr allows key s r id a x v w log at (calm_object d r.log) run (above p) same heap
               (lines_far key r.log log s.words (set s.words a x) (λ e low. (get_or-set_other s.words a (note_at key e) x 0 (no_note p e low), refl))
@@ -129,7 +133,7 @@ module _ {S : Type 0} (qsbr : Bool) (allows : Log → LiveEvent → Type 0) (key
                     (subst (λ (l : List ChainRight). KnowsChain qsbr key log (set s.words a x) l e) (sym owns) m.0, inl m.1);
               })
               (record {
-                others = λ o y claim ne kn. object_stays qsbr allows key s r id a x v w log at (no_less last) y o claim (same_object_moved key (objects_of r.log) (objects_of log) s.words c p next leaves enters x moved still (λ t q f. leads_used qsbr allows r.log t q r.run f) (λ q found f. follower_used qsbr allows r.log q found r.run f) (λ m e. (entering m e).0) knows_own.0 live stored r.agree.heap o (λ e. ne (entering o e).1))
+                others = λ o y claim ne kn. object_stays qsbr allows key s r id a x v w log at y o claim (same_object_moved key (objects_of r.log) (objects_of log) s.words c p next leaves enters x moved still (λ t q f. leads_used qsbr allows r.log t q r.run f) (λ q found f. follower_used qsbr allows r.log q found r.run f) (λ m e. (entering m e).0) knows_own.0 live stored r.agree.heap o (λ e. ne (entering o e).1))
                     (λ i _ fresh header n l. free_cell key (objects_of r.log) (objects_of log) s.words c p next leaves enters x moved still (λ t q f. leads_used qsbr allows r.log t q r.run f) (λ q found f. follower_used qsbr allows r.log q found r.run f) (λ m e. (entering m e).0) knows_own.0 live stored r.agree.heap i o fresh header n l) kn;
                 mine = mine;
               })
@@ -140,9 +144,6 @@ module _ {S : Type 0} (qsbr : Bool) (allows : Log → LiveEvent → Type 0) (key
       where
         w0 : Objects
         w0 = objects_of r.log
-
-        no_less : get_or (set s.words (spot_at key (objects_of r.log) (spot_of (own_in v.chains).chain p)) x) (last_at key) 0 ≡ get_or s.words (last_at key) 0 → get_or s.words (last_at key) 0 ≤ get_or (set s.words (spot_at key (objects_of r.log) (spot_of (own_in v.chains).chain p)) x) (last_at key) 0
-        no_less e = omega arith
 
         in_table : (q : Option ObjectId) → IsLive key (objects_of r.log) (spot_of (own_in v.chains).chain q) → spot_at key (objects_of r.log) (spot_of (own_in v.chains).chain q) < length s.words
         in_table None l = let wide = r.wide in let low : (own_in v.chains).chain < key.chains = l in omega arith
@@ -163,10 +164,6 @@ module _ {S : Type 0} (qsbr : Bool) (allows : Log → LiveEvent → Type 0) (key
         no_head : (q : Option ObjectId) (e : ℕ) → e < key.chains → e ≢ (own_in v.chains).chain → head_at key e ≢ spot_at key (objects_of r.log) (spot_of (own_in v.chains).chain q)
         no_head None e low ne f = ne (omega arith)
         no_head (Some o) e low ne f = omega arith
-
-        no_last : (q : Option ObjectId) → (own_in v.chains).chain < key.chains → last_at key ≢ spot_at key (objects_of r.log) (spot_of (own_in v.chains).chain q)
-        no_last None low f = omega arith
-        no_last (Some o) low f = omega arith
 
         no_queue : (q : Option ObjectId) (e n i : ℕ) → e < key.queues → n < 32 → i ≡ queued_at key e + n → i ≢ spot_at key (objects_of r.log) (spot_of (own_in v.chains).chain q)
         no_queue None e n i low b is f = let c = knows_own.0 in omega arith

@@ -1,5 +1,5 @@
 -- Queueing an object and closing a queue keep the rule.
-use Rattle.step_queues.proofs.Cited.{◌≡◌, ◌≢◌, ℕ, ◌+◌, ◌<◌, ◌≤◌, List, [], ◌∷◌, ◌++◌, Bool, ◌==◌, cond, length, get_or, set, sym, refl, ap, ◌∙◌, subst, inl, inr, ⊎_elim, arith, get_or-set_other, get_or-set_same, eq-eqb, ne_eqb, Option, dite, ℕ_discrete, get_elem?, length-append, either, State, Me, step, stepped, keeps, Allows, at_last, ObjectId, In, in_objects, has_object_in, at_number_same, at_number_other, CallbackId, LiveEvent, CloseQueue, Object, Queue, Log, state_of, closed_of, line_of, IsLiveRun, Objects, objects_of, Spot, head, link, Leads, Sizes, View, RecordRight, QueueRight, head_at, hold_at, note_at, queued_at, closed_at, finished_at, work_at, last_at, cell_at, object, queue, ClaimsObject, ClaimsQueue, KnowsObject, KnowsQueue, KeepsRule, at_end, calm_object, calm_close, queue_part, header_same, heap_beside, guards_far, object_stays, chains_kept, works_kept, stores, cell_in, object_in, IsRetired, queue_in, queued_in, closed_in, IsInQueue}
+use Rattle.step_queues.proofs.Cited.{◌≡◌, ◌≢◌, ℕ, ◌+◌, ◌<◌, ◌≤◌, List, [], ◌∷◌, ◌++◌, Bool, ◌==◌, cond, length, get_or, set, sym, refl, ap, ◌∙◌, subst, inl, inr, ⊎_elim, arith, get_or-set_other, get_or-set_same, eq-eqb, ne_eqb, Option, dite, ℕ_discrete, get_elem?, length-append, either, State, Me, step, stepped, keeps, Allows, at_last, ObjectId, In, in_objects, has_object_in, at_number_same, at_number_other, CallbackId, LiveEvent, CloseQueue, Object, Queue, Log, state_of, closed_of, line_of, IsLiveRun, Objects, objects_of, Spot, head, link, Leads, Sizes, View, RecordRight, QueueRight, head_at, hold_at, note_at, queued_at, closed_at, finished_at, work_at, numbers_stay, cell_at, object, queue, ClaimsObject, ClaimsQueue, KnowsObject, KnowsQueue, KeepsRule, at_end, calm_object, calm_close, queue_part, header_same, heap_beside, guards_far, object_stays, chains_kept, works_kept, stores, cell_in, object_in, IsRetired, queue_in, queued_in, closed_in, IsInQueue}
 use mathlib.Core.Option as lists
 use Rattle.live_rule.specs.declared.rights.RecordRight.TheVariants as record_right
 use Rattle.live_rule.specs.declared.rights.QueueRight.TheVariants as queue_right
@@ -83,7 +83,6 @@ module _ {S : Type 0} (qsbr : Bool) (allows : Log → LiveEvent → Type 0) (key
       let line_here : line_of log q ≡ line_of r.log q ++ o ∷ [] = at_number_same q (line_of r.log q ++ o ∷ []) (line_of r.log) in
       let line_else : (e : ℕ) → e ≢ q → line_of log e ≡ line_of r.log e = λ e ne. at_number_other q e (line_of r.log q ++ o ∷ []) (line_of r.log) ne in
       let longer : length (line_of log q) ≡ n + 1 = ap length line_here ∙ (length-append (line_of r.log q) (o ∷ []) ∙ ap (λ (z : ℕ). z + 1) count) in
-      let less : get_or s.words (last_at key) 0 ≤ get_or W (last_at key) 0 = (let e = keep (last_at key) (λ z. omega arith) in omega arith) in
       let cells : (j m : ℕ) → get_or W (cell_at key j m) 0 ≡ get_or s.words (cell_at key j m) 0 = λ j m. keep (cell_at key j m) (λ z. omega arith) in
       let w : View = record (queued_view v) { seen = log } in (
         w,
@@ -96,7 +95,7 @@ module _ {S : Type 0} (qsbr : Bool) (allows : Log → LiveEvent → Type 0) (key
               note = λ _. refl;
               used = λ _ u. u;
               alive = λ _ u. u;
-              last = less;
+              numbers = numbers_stay key was s.words W r.agree.heap (λ i. cells i 0);
               heads = λ c l. keep (head_at key c) (λ z. omega arith);
               cells = λ p al m _ _. cells (was.note p).0 m;
               header = λ p al. header_same was now p (get_or s.words (cell_at key (was.note p).0 0) 0) (get_or W (cell_at key (was.note p).0 0) 0) (λ h. h) (λ h. h) (cells (was.note p).0 0) (r.agree.heap.header p al);
@@ -114,7 +113,7 @@ module _ {S : Type 0} (qsbr : Bool) (allows : Log → LiveEvent → Type 0) (key
             (chains_kept qsbr allows key s r id a0 x v w log at refl (λ c l. (keep (hold_at key c) (λ z. omega arith), keep (head_at key c) (λ z. omega arith), refl, refl)))
             (record {
               others = λ p y claim ne kn. let other : p ≢ o = λ e. ne (subst (λ (z : RecordRight). ClaimsObject z p) (sym doomed) (sym e)) in
-                  object_stays qsbr allows key s r id a0 x v w log at less y p claim
+                  object_stays qsbr allows key s r id a0 x v w log at y p claim
                   (record { used = λ u. u; cut = λ u. u; note = λ _. refl; retired = λ u. u; retired_still = λ u. u; queued = λ h. ⊎_elim (λ (e : o ≡ p). absurd (other (sym e))) (λ (z : In was.queued p). z) h; queued_still = inr; reclaimed = λ u. u })
                   (λ j _ _ _ m _. cells j m) kn;
               mine = λ p claim. ((ko.0, inl refl, ko.2, ko.3), inl (subst (λ (z : RecordRight). ClaimsObject z p) (sym doomed) claim));

@@ -1,8 +1,8 @@
 -- The two stores of a header that end an object's life keep the rule.
-use Rattle.step_records.proofs.Cited.{◌≡◌, ◌≢◌, ℕ, ◌+◌, ◌*◌, ◌/◌, ◌<◌, List, ◌∷◌, Bool, get_or, set, sym, refl, ap, ◌∙◌, subst, inl, inr, ⊎_elim, arith, get_or-set_other, get_or-set_same, Option, get_elem?, State, Me, step, keeps, Allows, ObjectId, In, in_objects, has_object_in, LiveEvent, Object, Retire, Run, Log, record_of, IsLiveRun, Objects, objects_of, Spot, head, link, Leads, by_object, kept_log, ready_stays, Sizes, View, RecordRight, Unlinked, Retired, Queued, cell_at, IsAlive, Header, ClaimsObject, KeepsRule, but_object, calm_object, heap_beside, header_same, object_stays, looks, look_all, IsQueued, IsUnlinked, cell_in, object_in, IsKnown, stored_view}
+use Rattle.step_records.proofs.Cited.{IsOwnNumber, free_word, last_in, retired_word, ◌≡◌, ◌≢◌, ℕ, ◌+◌, ◌/◌, ◌<◌, List, ◌∷◌, Bool, get_or, set, sym, refl, ap, ◌∙◌, subst, inl, inr, ⊎_elim, arith, get_or-set_other, get_or-set_same, Option, get_elem?, State, Me, step, keeps, Allows, ObjectId, In, in_objects, has_object_in, LiveEvent, Object, Retire, Run, Log, record_of, IsLiveRun, Objects, objects_of, Spot, head, link, Leads, by_object, kept_log, ready_stays, Sizes, View, RecordRight, Unlinked, Retired, Queued, cell_at, IsAlive, Header, ClaimsObject, KeepsRule, but_object, calm_object, heap_beside, header_same, object_stays, looks, look_all, IsQueued, IsUnlinked, cell_in, object_in, IsKnown, stored_view}
 use mathlib.Core.Option as lists
 use Rattle.step_records.specs.Records.{HasCut, IsRipe, retired_view, retired, ran, looked_payload}
-use Rattle.step_records.proofs.Records.{number_is, own_record, knew, cell_far, alive_far, fresh_far, last_less, head_same}
+use Rattle.step_records.proofs.Records.{number_is, own_record, knew, cell_far, alive_far, fresh_far, numbers_go, head_same}
 
 leads_retired : (log : Log) (o : ObjectId) (t : Spot) (found : Option ObjectId) → Leads (objects_of (Object (Retire o) ∷ log)) t found → Leads (objects_of log) t found
 leads_retired log o (head c) found f = f
@@ -17,7 +17,7 @@ module _ {S : Type 0} (qsbr : Bool) (allows : Log → LiveEvent → Type 0) (key
   Rule = KeepsRule qsbr allows key
 
   -- the headers of retired and of run objects
-  pub retires : (slots id : ℕ) (me : Me S View) (a x : ℕ) → IsUnlinked me.0 → a ≡ cell_at key (cell_in me.0.object) 0 → x ≡ 2 * (object_in me.0.object).0 + 1 → Allows Rule slots id me a (λ _. x) (λ _. retired qsbr allows (step slots a x 0 lists.none) me x)
+  pub retires : (slots id : ℕ) (me : Me S View) (a x : ℕ) → IsUnlinked me.0 → a ≡ cell_at key (cell_in me.0.object) 0 → x ≡ retired_word (object_in me.0.object).0 → Allows Rule slots id me a (λ _. x) (λ _. retired qsbr allows (step slots a x 0 lists.none) me x)
   retires slots id me a x is a_is x_is s r deep at fits =
       let v : View = me.0 in
       let b = r.seen id v at in
@@ -30,13 +30,13 @@ module _ {S : Type 0} (qsbr : Bool) (allows : Log → LiveEvent → Type 0) (key
       let now : Objects = objects_of log in
       let run : IsLiveRun qsbr allows log = (((has_object_in was.cut o k.0, λ h. k.1 (in_objects was.retired o h)), tt), r.run) in
       let alive : IsAlive was o = (kept.linking.cut_used o k.0, λ h. k.1 (kept.run o h).0) in
-      let half : get_or s.words (cell_at key i 0) 0 / 2 ≡ o.0 = subst (λ (z : ℕ). get_or s.words (cell_at key z 0) 0 / 2 ≡ o.0) k.2 (r.agree.heap.header o alive).half in
+      let last : last_in key s.words i ≡ o.0 = subst (λ (z : ℕ). last_in key s.words z ≡ o.0) k.2 (r.agree.heap.header o alive).number in
       let low : i < key.pool = subst (λ (z : ℕ). z < key.pool) k.2 (r.agree.heap.low o alive) in
       let wide = r.wide in
       let W : List ℕ = set s.words (cell_at key i 0) x in
       let here : get_or W (cell_at key i 0) 0 ≡ x = get_or-set_same s.words (cell_at key i 0) x 0 (omega arith) in
       let other : (q : ObjectId) → q ≢ o → In now.retired q → In was.retired q = λ q ne h. ⊎_elim (λ (e : o ≡ q). absurd (ne (sym e))) (λ (z : In was.retired q). z) h in
-      let apart_cells : (q : ObjectId) → IsAlive was q → q ≢ o → (n : ℕ) → n < 6 → get_or W (cell_at key (was.note q).0 n) 0 ≡ get_or s.words (cell_at key (was.note q).0 n) 0 = λ q al ne n l. cell_far qsbr allows key s r i 0 x o.0 (omega arith) half (was.note q).0 n (alive_far qsbr allows key s r i 0 x o.0 (omega arith) half q al (λ e. ne (number_is q o e))) l in
+      let apart_cells : (q : ObjectId) → IsAlive was q → q ≢ o → (n : ℕ) → n < 6 → get_or W (cell_at key (was.note q).0 n) 0 ≡ get_or s.words (cell_at key (was.note q).0 n) 0 = λ q al ne n l. cell_far qsbr allows key s r i 0 x (omega arith) (was.note q).0 n (alive_far qsbr allows key s r i o.0 last q al (λ e. ne (number_is q o e))) l in
       let w : View = record (retired_view v) { seen = log } in (
         w,
         keeps,
@@ -48,28 +48,28 @@ module _ {S : Type 0} (qsbr : Bool) (allows : Log → LiveEvent → Type 0) (key
               note = λ _. refl;
               used = λ _ u. u;
               alive = λ _ u. u;
-              last = last_less qsbr allows key s r i 0 x o.0 (omega arith) half;
-              heads = head_same qsbr allows key s r i 0 x o.0 (omega arith) half;
+              numbers = numbers_go qsbr allows key s r i 0 x (omega arith) low (λ _. let quarter : x / 4 ≡ last_in key s.words i = omega arith in (omega arith, subst (IsOwnNumber key i) (sym quarter) (r.agree.heap.own i)));
+              heads = head_same qsbr allows key s r i 0 x (omega arith);
               cells = λ q al n up l. by_object q o
                   (λ e. let same : (was.note q).0 ≡ i = ap (λ (z : ObjectId). (was.note z).0) e ∙ k.2 in get_or-set_other s.words (cell_at key i 0) (cell_at key (was.note q).0 n) x 0 (λ z. omega arith))
                   (λ ne. apart_cells q al ne n l);
               header = λ q al. by_object q o
                   (λ e. subst (λ (z : ObjectId). Header now z (get_or W (cell_at key (was.note z).0 0) 0)) (sym e) (subst (λ (n : ℕ). Header now o (get_or W (cell_at key n 0) 0)) (sym k.2)
-                  (record { half = (let z = here in omega arith); fresh = λ f. absurd (f (inl refl)); retired = λ _. here ∙ x_is })))
+                  (record { number = (let z = here in omega arith); fresh = λ f. absurd (f (inl refl)); retired = λ _. here ∙ x_is })))
                   (λ ne. header_same was now q (get_or s.words (cell_at key (was.note q).0 0) 0) (get_or W (cell_at key (was.note q).0 0) 0) (other q ne) inr (apart_cells q al ne 0 (omega arith)) (r.agree.heap.header q al));
             }) r.agree.heap)
             (record {
               others = λ q y claim far kn. let ne : q ≢ o = λ e. far (subst (λ (z : RecordRight). ClaimsObject z q) (sym is) (sym e)) in
-                  object_stays qsbr allows key s r id (cell_at key i 0) x v w log at (last_less qsbr allows key s r i 0 x o.0 (omega arith) half) y q claim
+                  object_stays qsbr allows key s r id (cell_at key i 0) x v w log at y q claim
                   (record { used = λ u. u; cut = λ u. u; note = λ _. refl; retired = other q ne; retired_still = inr; queued = λ u. u; queued_still = λ u. u; reclaimed = λ u. u })
-                  (λ j _ _ header n l. cell_far qsbr allows key s r i 0 x o.0 (omega arith) half j n (fresh_far qsbr allows key s r i 0 x o.0 (omega arith) half j q header (λ e. ne (number_is q o e))) l) kn;
+                  (λ j _ _ header n l. cell_far qsbr allows key s r i 0 x (omega arith) j n (fresh_far qsbr allows key s r i o.0 last j q header (λ e. ne (number_is q o e))) l) kn;
               mine = λ q claim. ((inl refl, (λ u. k.1 (kept.queued_retired o u)), alive.1, k.2), inl (subst (λ (z : RecordRight). ClaimsObject z q) (sym is) claim));
             })),
         (refl, refl, (r.log, refl, b.0, b.1, run)),
       )
 
-  pub runs : (slots id : ℕ) (me : Me S View) (a : ℕ) → IsQueued me.0 → a ≡ cell_at key (cell_in me.0.object) 0 → IsKnown (λ (l : Log). IsRipe l (object_in me.0.object)) me.0 → Allows Rule slots id me a (λ _. 0) (λ _. ran qsbr allows (step slots a 0 0 lists.none) me 0)
-  runs slots id me a is a_is ripe s r deep at fits =
+  pub runs : (slots id : ℕ) (me : Me S View) (a x : ℕ) → IsQueued me.0 → a ≡ cell_at key (cell_in me.0.object) 0 → x ≡ free_word (object_in me.0.object).0 → IsKnown (λ (l : Log). IsRipe l (object_in me.0.object)) me.0 → Allows Rule slots id me a (λ _. x) (λ _. ran qsbr allows (step slots a x 0 lists.none) me x)
+  runs slots id me a x is a_is x_is ripe s r deep at fits =
       let v : View = me.0 in
       let b = r.seen id v at in
       let i : ℕ = cell_in v.object in
@@ -81,31 +81,32 @@ module _ {S : Type 0} (qsbr : Bool) (allows : Log → LiveEvent → Type 0) (key
       let now : Objects = objects_of log in
       let run : IsLiveRun qsbr allows log = (((has_object_in was.queued o k.1, (λ h. k.2 (in_objects was.reclaimed o h)), ⊎_elim (λ (x : IsRipe v.seen o). ready_stays qsbr allows v.seen r.log o b.0 r.run x.0 x.1) (λ (x : IsRipe v.heard o). ready_stays qsbr allows v.heard r.log o b.1 r.run x.0 x.1) ripe), tt), r.run) in
       let alive : IsAlive was o = (kept.linking.cut_used o (kept.linking.retired_cut o k.0), k.2) in
-      let half : get_or s.words (cell_at key i 0) 0 / 2 ≡ o.0 = subst (λ (z : ℕ). get_or s.words (cell_at key z 0) 0 / 2 ≡ o.0) k.3 (r.agree.heap.header o alive).half in
-      let W : List ℕ = set s.words (cell_at key i 0) 0 in
-      let apart_cells : (q : ObjectId) → IsAlive was q → q ≢ o → (n : ℕ) → n < 6 → get_or W (cell_at key (was.note q).0 n) 0 ≡ get_or s.words (cell_at key (was.note q).0 n) 0 = λ q al ne n l. cell_far qsbr allows key s r i 0 0 o.0 (omega arith) half (was.note q).0 n (alive_far qsbr allows key s r i 0 0 o.0 (omega arith) half q al (λ e. ne (number_is q o e))) l in
+      let last : last_in key s.words i ≡ o.0 = subst (λ (z : ℕ). last_in key s.words z ≡ o.0) k.3 (r.agree.heap.header o alive).number in
+      let low : i < key.pool = subst (λ (z : ℕ). z < key.pool) k.3 (r.agree.heap.low o alive) in
+      let W : List ℕ = set s.words (cell_at key i 0) x in
+      let apart_cells : (q : ObjectId) → IsAlive was q → q ≢ o → (n : ℕ) → n < 6 → get_or W (cell_at key (was.note q).0 n) 0 ≡ get_or s.words (cell_at key (was.note q).0 n) 0 = λ q al ne n l. cell_far qsbr allows key s r i 0 x (omega arith) (was.note q).0 n (alive_far qsbr allows key s r i o.0 last q al (λ e. ne (number_is q o e))) l in
       let was_alive : (q : ObjectId) → IsAlive now q → IsAlive was q × (q ≢ o) = λ q al. ((al.0, λ h. al.1 (inr h)), λ e. al.1 (inl (sym e))) in
-      let w : View = record (stored_view a 0 (but_object v)) { seen = log } in (
+      let w : View = record (stored_view a x (but_object v)) { seen = log } in (
         w,
         keeps,
         tt,
-        subst (λ (n : ℕ). Rule record { words = set s.words n 0; homes = s.homes; views = set s.views id w }) (sym a_is)
-            (own_record qsbr allows key s r id (cell_at key i 0) 0 v w log at (calm_object (Run o) r.log) run (omega arith) (refl, refl, refl, refl) (refl, refl, refl) (λ _. (refl, refl)) (λ _. (refl, refl)) (λ _ h. inr h)
+        subst (λ (n : ℕ). Rule record { words = set s.words n x; homes = s.homes; views = set s.views id w }) (sym a_is)
+            (own_record qsbr allows key s r id (cell_at key i 0) x v w log at (calm_object (Run o) r.log) run (omega arith) (refl, refl, refl, refl) (refl, refl, refl) (λ _. (refl, refl)) (λ _. (refl, refl)) (λ _ h. inr h)
             (heap_beside key was now s.words W (record {
               leads = leads_run r.log o;
               note = λ _. refl;
               used = λ _ u. u;
               alive = λ q al. (was_alive q al).0;
-              last = last_less qsbr allows key s r i 0 0 o.0 (omega arith) half;
-              heads = head_same qsbr allows key s r i 0 0 o.0 (omega arith) half;
+              numbers = numbers_go qsbr allows key s r i 0 x (omega arith) low (λ _. let quarter : x / 4 ≡ last_in key s.words i = omega arith in (omega arith, subst (IsOwnNumber key i) (sym quarter) (r.agree.heap.own i)));
+              heads = head_same qsbr allows key s r i 0 x (omega arith);
               cells = λ q al n up l. apart_cells q (was_alive q al).0 (was_alive q al).1 n l;
               header = λ q al. let z = was_alive q al in header_same was now q (get_or s.words (cell_at key (was.note q).0 0) 0) (get_or W (cell_at key (was.note q).0 0) 0) (λ h. h) (λ h. h) (apart_cells q z.0 z.1 0 (omega arith)) (r.agree.heap.header q z.0);
             }) r.agree.heap)
             (record {
               others = λ q y claim far kn. let ne : q ≢ o = λ e. far (subst (λ (z : RecordRight). ClaimsObject z q) (sym is) (sym e)) in
-                  object_stays qsbr allows key s r id (cell_at key i 0) 0 v w log at (last_less qsbr allows key s r i 0 0 o.0 (omega arith) half) y q claim
+                  object_stays qsbr allows key s r id (cell_at key i 0) x v w log at y q claim
                   (record { used = λ u. u; cut = λ u. u; note = λ _. refl; retired = λ u. u; retired_still = λ u. u; queued = λ u. u; queued_still = λ u. u; reclaimed = λ h. ⊎_elim (λ (e : o ≡ q). absurd (ne (sym e))) (λ (z : In was.reclaimed q). z) h })
-                  (λ j _ _ header n l. cell_far qsbr allows key s r i 0 0 o.0 (omega arith) half j n (fresh_far qsbr allows key s r i 0 0 o.0 (omega arith) half j q header (λ e. ne (number_is q o e))) l) kn;
+                  (λ j _ _ header n l. cell_far qsbr allows key s r i 0 x (omega arith) j n (fresh_far qsbr allows key s r i o.0 last j q header (λ e. ne (number_is q o e))) l) kn;
               mine = λ q claim. absurd claim;
             })),
         (refl, refl, (r.log, refl, b.0, b.1, run)),

@@ -1,5 +1,5 @@
 -- What each step on a record tells.
-use Rattle.std.specs.Prelude.{Bool, ◌≡◌, ◌≢◌, ◌⊎◌, ℕ, ◌+◌, ◌*◌, ◌<◌, List, [], length, slice_index_or, slice_set}
+use Rattle.std.specs.Prelude.{Bool, ◌≡◌, ◌≢◌, ◌⊎◌, ℕ, ◌+◌, ◌<◌, List, [], length, slice_index_or, slice_set}
 use Rattle.atomic_table.specs.Table.{Me, Step}
 use Rattle.live_rule.specs.rcu_model.declared.event.ObjectId.{ObjectId}
 use Rattle.live_rule.specs.rcu_model.Sets.{In}
@@ -9,19 +9,16 @@ use Rattle.live_rule.specs.live_log.declared.event.ObjectEvent.TheVariants.{Reti
 use Rattle.live_rule.specs.live_log.Log.{Log, record_of, state_of}
 use Rattle.live_rule.specs.declared.view.Sizes.{Sizes}
 use Rattle.live_rule.specs.declared.view.View.{View}
-use Rattle.live_rule.specs.declared.rights.RecordRight.TheVariants.{Drawn, Fresh, Retired}
-use Rattle.live_rule.specs.Places.{cell_at, last_at}
+use Rattle.live_rule.specs.declared.rights.RecordRight.TheVariants.{Fresh, Retired}
+use Rattle.live_rule.specs.Places.{cell_at}
+use Rattle.live_rule.specs.Objects.{free_word, fresh_word}
 use Rattle.live_rule.specs.Seats.{but_object}
 use Rattle.live_rule.specs.Rights.{KnowsChains, IsFresh, IsUnlinked, IsRetired, IsQueued, cell_in, object_in, link_in, payload_in}
 use Rattle.live_rule.specs.Steps.{Did, Went, exchanged_view, looked_view, stored_view}
 
--- the view, once this number was drawn
-abbrev pub drawn_view : ℕ → View → View
-drawn_view n v = record v { object = Drawn (record { 0 = n }) }
-
--- the view, once the object has a record, with this link and this payload
-abbrev pub taken_record : ℕ → ℕ → List ℕ → View → View
-taken_record i l p v = record v { object = Fresh i (object_in v.object) l p }
+-- the view, once a record is its, with this link and this payload, for a new object with this number
+abbrev pub taken_record : ℕ → ℕ → ℕ → List ℕ → View → View
+taken_record i n l p v = record v { object = Fresh i (record { 0 = n }) l p }
 
 -- the view, once the record has this link
 abbrev pub linked_view : ℕ → View → View
@@ -54,25 +51,17 @@ module _ {S : Type 0} (qsbr : Bool) (allows : Log → LiveEvent → Type 0) wher
 
   -- the header of the seat's own object was looked at
   abbrev pub numbered : Step S → Me S View → ℕ → Me S View → Type 0
-  numbered st m n m' = looked st m n m' × (n ≡ 2 * (object_in m.0.object).0)
+  numbered st m n m' = looked st m n m' × (n ≡ fresh_word (object_in m.0.object).0)
 
-  -- this was found to be the last number, and the one after it was drawn
-  abbrev pub DrewNumber : Sizes → ℕ → ℕ → Me S View → Me S View → Type 0
-  DrewNumber key n last m m' = Went qsbr allows (drawn_view (last + 1) (exchanged_view (last_at key) n (last + 1) m.0)) m m'
-
-  -- a number was drawn, or another one was found
-  abbrev pub drew : Step S → Me S View → ℕ → Me S View → Type 0
-  drew st m n m' = (n ≡ st.first → Went qsbr allows (drawn_view st.second (exchanged_view st.word n st.second m.0)) m m') × (n ≢ st.first → Went qsbr allows (looked_view st.word n m.0) m m')
-
-  -- this was found in a record's header, and so the record was taken for the object with this number
+  -- this was found in a record's header, and so the record was taken for a new object with this number
   abbrev pub TookRecord : Sizes → ℕ → ℕ → ℕ → Me S View → Me S View → Type 0
-  TookRecord key i n number m m' = Went qsbr allows (taken_record i (link_in m'.0.object) (payload_in m'.0.object) (exchanged_view (cell_at key i 0) n (2 * number) m.0)) m m' × (length (payload_in m'.0.object) ≡ 4)
+  TookRecord key i n number m m' = Went qsbr allows (taken_record i number (link_in m'.0.object) (payload_in m'.0.object) (exchanged_view (cell_at key i 0) n (fresh_word number) m.0)) m m' × (length (payload_in m'.0.object) ≡ 4)
 
-  -- a free record was taken, or it was found in use
+  -- a free record was taken, or another header was found
   abbrev pub took : Step S → Me S View → ℕ → Me S View → Type 0
   took st m n m' =
-      (n ≡ 0 → (i : ℕ) → st.word ≡ cell_at m.0.sizes i 0 → Went qsbr allows (taken_record i (link_in m'.0.object) (payload_in m'.0.object) (exchanged_view st.word n st.second m.0)) m m' × (length (payload_in m'.0.object) ≡ 4))
-      × (n ≢ 0 → Went qsbr allows (looked_view st.word n m.0) m m')
+      (n ≡ st.first → (i number : ℕ) → st.word ≡ cell_at m.0.sizes i 0 → st.second ≡ fresh_word number → Went qsbr allows (taken_record i number (link_in m'.0.object) (payload_in m'.0.object) (exchanged_view st.word n st.second m.0)) m m' × (length (payload_in m'.0.object) ≡ 4))
+      × (n ≢ st.first → Went qsbr allows (looked_view st.word n m.0) m m')
 
   -- the link was stored
   abbrev pub linked : Step S → Me S View → ℕ → Me S View → Type 0
@@ -99,7 +88,7 @@ module _ {S : Type 0} (qsbr : Bool) (allows : Log → LiveEvent → Type 0) wher
 
   -- the object's callback may run, and this record, which was its own, was freed
   abbrev pub RanObject : Sizes → ℕ → Me S View → Me S View → Type 0
-  RanObject key i m m' = Did qsbr allows (stored_view (cell_at key i 0) 0 (but_object m.0)) (Object (Run (object_in m.0.object))) m m'
+  RanObject key i m m' = Did qsbr allows (stored_view (cell_at key i 0) (free_word (object_in m.0.object).0) (but_object m.0)) (Object (Run (object_in m.0.object))) m m'
 
   -- the object's callback may run, and its record was freed by this word
   abbrev pub ran : Step S → Me S View → ℕ → Me S View → Type 0

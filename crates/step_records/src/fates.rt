@@ -32,7 +32,7 @@ pub fn load_payload<P: GracePlan, K: ChainRule>(
     table.words.shared.load::<LooksPayload<P, K>>(seat, place)
 }
 
-/// Retires the seat's object, which is cut: stores 1 more than twice its number in its record's header.
+/// Retires the seat's object, which is cut: stores 2 more than four times its number in its record's header.
 pub fn store_retire<P: GracePlan, K: ChainRule>(
     table: &LiveTable<P, K>,
     seat: &mut LiveSeat,
@@ -40,7 +40,7 @@ pub fn store_retire<P: GracePlan, K: ChainRule>(
     number: u64,
 )
     requires seat { (seat.old.table_id ≡ table.now.words.shared.table_id) × (cell < table.now.pool) }
-    requires right { IsUnlinked seat.old.me.0 × (cell_in seat.old.me.0.object ≡ cell) × ((object_in seat.old.me.0.object).0 ≡ number) × (number < 2 ^ 63) }
+    requires right { IsUnlinked seat.old.me.0 × (cell_in seat.old.me.0.object ≡ cell) × ((object_in seat.old.me.0.object).0 ≡ number) × (number < 2 ^ 62) }
     ensures seat { Keeps seat.old seat.new }
     ensures retired { Did P.QSBR K.allows (retired_view seat.old.me.0) (Object (Retire (object_in seat.old.me.0.object))) seat.old.me seat.new.me }
 {
@@ -48,23 +48,27 @@ pub fn store_retire<P: GracePlan, K: ChainRule>(
     table
         .words
         .shared
-        .store::<Retires<P, K>>(seat, place, 2 * number + 1);
+        .store::<Retires<P, K>>(seat, place, 4 * number + 2);
 }
 
-/// Frees the record of the seat's object, which is queued: stores 0 in its header, after which its callback may be
-/// called. The store is kept among the looks. The seat has seen, or heard of, a log in which the object was retired and
+/// Frees the record of the seat's object, which is queued: stores four times its number in its header, after which its
+/// callback may be called. The store is kept among the looks. The seat has seen, or heard of, a log in which the object was retired and
 /// each section that was open at its retirement had ended.
 pub fn store_run<P: GracePlan, K: ChainRule>(
     table: &LiveTable<P, K>,
     seat: &mut LiveSeat,
     cell: usize,
+    number: u64,
 )
     requires seat { (seat.old.table_id ≡ table.now.words.shared.table_id) × (cell < table.now.pool) }
-    requires right { IsQueued seat.old.me.0 × (cell_in seat.old.me.0.object ≡ cell) }
+    requires right { IsQueued seat.old.me.0 × (cell_in seat.old.me.0.object ≡ cell) × ((object_in seat.old.me.0.object).0 ≡ number) × (number < 2 ^ 62) }
     requires ripe { IsKnown (λ log. IsRipe log (object_in seat.old.me.0.object)) seat.old.me.0 }
     ensures seat { Keeps seat.old seat.new }
     ensures ran { RanObject P.QSBR K.allows table.now.words.shared.key cell seat.old.me seat.new.me }
 {
     let place = table.cell_place(cell, 0);
-    table.words.shared.store::<Runs<P, K>>(seat, place, 0);
+    table
+        .words
+        .shared
+        .store::<Runs<P, K>>(seat, place, 4 * number);
 }

@@ -8,6 +8,5 @@ mod steps;
 
 pub use fates::{load_payload, store_retire, store_run};
 pub use steps::{
-    draw_number, load_header, load_last, load_number, store_discard, store_link, store_word,
-    take_cell,
+    load_header, load_number, next_number, store_discard, store_link, store_word, take_cell,
 };

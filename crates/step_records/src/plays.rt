@@ -1,15 +1,9 @@
 //! What each step on a record tells.
-ghost use Rattle.step_records.specs.Records.{discarded, drew, linked, looked, looked_fresh, looked_payload, numbered, ran, retired, took, worded};
+ghost use Rattle.step_records.specs.Records.{discarded, linked, looked, looked_fresh, looked_payload, numbered, ran, retired, took, worded};
 
 use atomic_table::Play;
 use live_rule::{CallbackId, ChainRule, GracePlan, View};
 use std::marker::PhantomData;
-
-pub(crate) struct LooksLast<P, K>(PhantomData<(P, K)>);
-
-impl<P: GracePlan, K: ChainRule> Play<CallbackId, View> for LooksLast<P, K> {
-    ghost then = { looked P.QSBR K.allows };
-}
 
 pub(crate) struct LooksHeader<P, K>(PhantomData<(P, K)>);
 
@@ -21,12 +15,6 @@ pub(crate) struct LooksNumber<P, K>(PhantomData<(P, K)>);
 
 impl<P: GracePlan, K: ChainRule> Play<CallbackId, View> for LooksNumber<P, K> {
     ghost then = { numbered P.QSBR K.allows };
-}
-
-pub(crate) struct Draws<P, K>(PhantomData<(P, K)>);
-
-impl<P: GracePlan, K: ChainRule> Play<CallbackId, View> for Draws<P, K> {
-    ghost then = { drew P.QSBR K.allows };
 }
 
 pub(crate) struct Takes<P, K>(PhantomData<(P, K)>);

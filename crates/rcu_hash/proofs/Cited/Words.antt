@@ -11,7 +11,7 @@ pub use Rattle.live_log.specs.declared.event.ObjectEvent.TheVariants.{Push, Repl
 pub use Rattle.rcu_hash.specs.Buckets.{HasRight, IsBucket}
 pub use Rattle.rcu_hash.specs.Copies.{AreApart, AreRanked, value_among, value_in_bucket}
 pub use Rattle.rcu_hash.specs.Directories.{AnswersLinked, AnswersThrough, bucket_in, buckets_in, directed_map, leads, value_through, LeadsTo, WalksThrough, first_in, leads_to}
-pub use Rattle.rcu_hash.specs.Freeing.{FreesAll, FreesAllBut, GivesUp, IsLeftZero, KeepsNone, Looked, Undoes}
+pub use Rattle.rcu_hash.specs.Freeing.{FreesAll, FreesAllBut, GivesUp, IsLeftFree, KeepsNone, Looked, Undoes}
 pub use Rattle.rcu_hash.specs.Growing.{CopiesAll, CopiesKey, NotesAll, Grows, Exchanges, Founds}
 pub use Rattle.rcu_hash.specs.Leaving.{LeavesMap, Writes}
 pub use Rattle.rcu_hash.specs.Naming.{Directs, words_by}
@@ -36,7 +36,8 @@ pub use Rattle.rcu_list.specs.live_read.Reads.{FindsFirst, Looks}
 pub use Rattle.rcu_list.specs.live_read.Sections.{IsIn}
 pub use Rattle.rcu_list.specs.live_read.declared.caller.Caller.{Ghosts}
 pub use Rattle.rcu_list.specs.live_read.declared.reader_core.ReaderCore.{ReaderCore}
-pub use Rattle.rcu_list.specs.live_rule.Places.{hold_at, cell_at, last_at, closed_at}
+pub use Rattle.rcu_list.specs.live_rule.Places.{hold_at, cell_at, closed_at}
+pub use Rattle.rcu_list.specs.live_rule.Objects.{IsFreeWord, free_word}
 pub use Rattle.rcu_list.specs.live_rule.Rights.{IsListed, own_in, IsWriter, cell_in, object_in, payload_in, AreAsKnown}
 pub use Rattle.rcu_list.specs.live_rule.Seats.{lent_chains}
 pub use Rattle.rcu_list.specs.live_rule.Steps.{Went, stores_in, Keeps}
@@ -47,7 +48,7 @@ pub use Rattle.rcu_list.specs.live_rule.declared.view.Sizes.{Sizes}
 pub use Rattle.rcu_list.specs.live_rule.declared.view.View.{View}
 pub use Rattle.rcu_list.specs.live_write.Calls.{IsUnretired}
 pub use Rattle.rcu_list.specs.live_write.Chains.{MayPublish, Publishes, list_in, push_by, replace_by}
-pub use Rattle.rcu_list.specs.live_write.Searching.{AreTaken, GetsNoRecord, IsUsedUp, TakesRecord}
+pub use Rattle.rcu_list.specs.live_write.Searching.{AreTaken, GetsNoRecord, TakesRecord}
 pub use Rattle.rcu_list.specs.live_write.declared.records.Unlinked.{Unlinked}
 pub use Rattle.rcu_model.proofs.Lemmas.{at_number_other, at_number_same, at_object_same, in_left, none_some, some_is, first_has, Once, Tells, in_append, object_tells, in_objects, replaced_there}
 pub use Rattle.rcu_model.specs.Sets.{In, at_number, replaced, without_object, first_of, same_object}

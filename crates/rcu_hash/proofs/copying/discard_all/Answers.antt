@@ -1,4 +1,4 @@
-use Rattle.rcu_hash.proofs.Cited.{GivesUp, cell_in, ◌≡◌, [], ◌∷◌, sym, subst, arith, map, nil_from_length, gives_up_less}
+use Rattle.rcu_hash.proofs.Cited.{GivesUp, cell_in, object_in, ◌≡◌, [], ◌∷◌, sym, subst, arith, map, nil_from_length, gives_up_less}
 use Rattle.rcu_hash.proofs.copying.discard_all.Goals as goal
 
 pub loop-init : goal.loop-init
@@ -14,7 +14,7 @@ loop-preserved g c =
       undone = λ start logs e h.
           let was = i.undone start logs e h in
           let first = subst (λ l. GivesUp w g.B.Site.sizes (map (λ c. cell_in c.owned.seat.me.0.object) l) was.0 e start c.loop.caller) c.in-Some.ensures.cases.0 was.1 in
-          (d.loads.0 ∷ was.0, gives_up_less (cell_in c.in-Some.copied.owned.seat.me.0.object) rest was.0 d.loads.0 e start c.loop.caller c.discard.new.caller first d.same d.heard.0.after_heard d.loads.1 d.freed);
+          (d.loads.0 ∷ was.0, gives_up_less (cell_in c.in-Some.copied.owned.seat.me.0.object) (object_in c.in-Some.copied.owned.seat.me.0.object).0 rest was.0 d.loads.0 e start c.loop.caller c.discard.new.caller first d.same d.heard.0.after_heard d.loads.1 d.freed);
     }
 
 pub returns : goal.returns

@@ -1,10 +1,10 @@
-use Rattle.step_records.proofs.Cited.{ℕ, ◌∙◌, ap, sym, cell_at}
+use Rattle.step_records.proofs.Cited.{free_word, ℕ, ◌∙◌, ap, sym, cell_at}
 use Rattle.step_records.proofs.Ends.{runs}
 use Rattle.step_records.proofs.fates.store_run.Goals as goal
 
 pub store-requires : goal.store-requires
 store-requires g c = let right = c.requires.right in let key = c.args.table.now.words.shared.key in
-    (c.requires.seat.0, c.cell_place-place.ensures.1, runs g.P.GracePlan.QSBR g.K.ChainRule.allows _ _ _ _ _ right.0 (c.cell_place-place.ensures.0 ∙ ap (λ (i : ℕ). cell_at key i 0) (sym right.1)) c.requires.ripe)
+    (c.requires.seat.0, c.cell_place-place.ensures.1, runs g.P.GracePlan.QSBR g.K.ChainRule.allows _ _ _ _ _ _ right.0 (c.cell_place-place.ensures.0 ∙ ap (λ (i : ℕ). cell_at key i 0) (sym right.1)) (ap free_word (sym right.2)) c.requires.ripe)
 
 pub returns-clause-ran : goal.returns-clause-ran
-returns-clause-ran g c = rw (sym c.cell_place-place.ensures.0) c.store.ensures.2
+returns-clause-ran g c = rw (sym c.cell_place-place.ensures.0) (rw c.requires.right.2 c.store.ensures.2)

@@ -22,7 +22,7 @@ invariant_of-self-2 g c =
     let given = c.given-given.ensures in
     let o : ObjectId = object_in c.learn.new.seat.me.0.object in
     let item : Item (JobValue g.row.C.Denot) = record { object = record { 0 = c.queue_object-seat.result.1 }; job = c.of.result } in
-    let named : item.object ≡ o = λ j. record { 0 = c.queue_object-seat.ensures.number j } in
+    let named : item.object ≡ o = λ j. record { 0 = c.queue_object-seat.ensures.number.0 j } in
     let run : object_in item.job.0.object ≡ o = ap (λ (z : JobValue g.row.C.Denot). object_in z.0.object) c.of.ensures ∙ ap object_in c.queue_object-seat.ensures.job.3 in
     let last : IsLast q (given_of jobs) item.object new.seen = subst (λ (n : ℕ). IsLast q n item.object new.seen) given (subst (λ (p : ObjectId). IsLast q c.given-given.result p new.seen) (sym named) queued.last) in
     let seen = ap (λ (z : JobValue g.row.C.Denot). z.0.seen) c.of.ensures ∙ (same ∙ queued.wrote) in
@@ -75,7 +75,7 @@ returns-clause-pushed g c =
     let item : Item (JobValue g.row.C.Denot) = record { object = record { 0 = c.queue_object-seat.result.1 }; job = c.of.result } in
     let learn = ap (λ z. z.0) c.learn.ensures.2 in
     let parts = ap (λ z. z.me.0) c.into_parts-seat.ensures.seat.0 in
-    let given : item.object ≡ object_in c.learn.new.seat.me.0.object = λ j. record { 0 = c.queue_object-seat.ensures.number j } in
+    let given : item.object ≡ object_in c.learn.new.seat.me.0.object = λ j. record { 0 = c.queue_object-seat.ensures.number.0 j } in
     let named = given ∙ (ap (λ (v : View). object_in v.object) learn ∙ ap (λ (v : View). object_in v.object) parts) in
     let put = c.in-Ok-push.ensures.ok.2 ∙ ap (λ (j : Jobs g.row.C.Denot). pushed j item) c.in-Ok.ensures.ok in
     let here = put ∙ ap (λ (s : Jobs g.row.C.Denot × View × ℕ). pushed (with_place s.0) item) c.self.view_is in

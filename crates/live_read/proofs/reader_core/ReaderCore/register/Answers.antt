@@ -1,4 +1,4 @@
-use Rattle.live_read.proofs.Cited.{sym, subst, Seat, CallbackId, View, slot_at, Fits}
+use Rattle.live_read.proofs.Cited.{sym, subst, Seat, CallbackId, View, slot_at}
 use Rattle.live_read.specs.Registering.{Finds}
 use Rattle.live_read.proofs.Seeking.{closed_fits, finds_looks}
 use Rattle.live_read.proofs.reader_core.ReaderCore.register.Goals as goal
