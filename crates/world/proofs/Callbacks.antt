@@ -1,23 +1,17 @@
 -- What the world keeps of retired objects, queues, workers and barriers beside the machine.
-use Rattle.world.proofs.Cited.{mod_below, slice_get_within, ◌≡◌, ◌≢◌, ◌⊎◌, inl, inr, ℕ, ◌+◌, ◌%◌, ◌<◌, ◌≤◌, Bool, true, false, List, [], ◌∷◌, ◌++◌, length, get_or, slice_get, Option, Some, None, sym, ap, ◌∙◌, subst, arith, Event, Open, Close, First, Next, Retire, Queue, Run, Ask, Clear, ObjectId, SectionId, without_section, at_number, State, IsAllowed, after, In, in_left, has_number_in, without_section_has, has_without_section, at_number_other, given_of, SyncCore, WorkerCore, Life, ObjectState, QueueState, BarrierStep, Note, Check, RetireStep, UpdaterPlace, Retires, Bars, UpdaterState, WorkerState, changed_at, BoardView, stage_of, chain_of, decide_number, life_of, Items, Has, InQueue, queue_at, changed_here, changed_else, refl, items_of, Mark, marked_life, life_else, stage_marked, chain_marked, Stands, changed_length, slice_set, Result, Ok, Err, length-set, Refusal, AreAllowed, after_all, Layout, ReaderState, Change, Read, Begin, Publish, Grace, Stay, spliced_objects, Plans, told, changed, within, grown_same, spliced_chain, stage_grown, life_within, life_grown, life_spliced}
-use Rattle.rcu_model.specs.declared.event.Event.TheVariants.{Bar}
-use Rattle.call_rcu_worker.specs.declared.sync.SyncCore.TheVariants as core
-use Rattle.call_rcu_worker.specs.declared.worker.WorkerCore.TheVariants as worker
-use Rattle.world_state.specs.declared.object.Life.TheVariants as life
-use Rattle.world_state.specs.declared.object.Stage.TheVariants as stage
-use Rattle.world_state.specs.declared.updater.RetireStep.TheVariants as due
+use Rattle.world.proofs.Cited.{Item, mod_below, slice_get_within, ◌≡◌, ◌≢◌, ◌⊎◌, inl, inr, ℕ, ◌+◌, ◌%◌, ◌<◌, ◌≤◌, Bool, true, false, List, [], ◌∷◌, ◌++◌, length, get_or, slice_get, Option, Some, None, sym, ap, ◌∙◌, subst, arith, Event, Open, Close, First, Next, Retire, Queue, Run, Ask, Clear, ObjectId, SectionId, without_section, at_number, State, IsAllowed, after, In, in_left, has_number_in, without_section_has, has_without_section, at_number_other, given_of, SyncCore, WorkerCore, Life, ObjectState, QueueState, BarrierStep, Note, Check, RetireStep, UpdaterPlace, Retires, Bars, UpdaterState, WorkerState, changed_at, BoardView, stage_of, chain_of, decide_number, life_of, Items, Has, InQueue, queue_at, changed_here, changed_else, refl, items_of, Mark, marked_life, life_else, stage_marked, chain_marked, Stands, changed_length, slice_set, Result, Ok, Err, length-set, Refusal, AreAllowed, after_all, Layout, ReaderState, Change, Read, Begin, Publish, Grace, Stay, spliced_objects, Plans, told, changed, within, grown_same, spliced_chain, stage_grown, life_within, life_grown, life_spliced, Stage}
+use Rattle.callback_queue.specs.Queue.{Queue as ItemQueue}
 use Rattle.world.proofs.State.{updater_at, worker_at, told_by, Kept, Owes, at_updaters}
-use Rattle.rcu_model.specs.declared.event.Event.TheVariants as events
 use Rattle.world.proofs.Fence.{Laws}
 use Rattle.world.proofs.Rows.{Copies, Nests, Unnests, Announces, ReaderRows}
 use Rattle.world.proofs.KeptReaders.{longer}
 
 -- what was done with an object, in the table and in the machine
 abbrev pub LifeKept : Life → ObjectId → List ObjectId → List ObjectId → List ObjectId → Type 0
-LifeKept life.Kept o retired queued reclaimed = (¬ In retired o) × (¬ In queued o) × (¬ In reclaimed o)
-LifeKept life.Retired o retired queued reclaimed = In retired o × (¬ In queued o) × (¬ In reclaimed o)
-LifeKept life.Queued o retired queued reclaimed = In retired o × In queued o × (¬ In reclaimed o)
-LifeKept life.Reclaimed o retired queued reclaimed = In retired o × In queued o × In reclaimed o
+LifeKept Life.Kept o retired queued reclaimed = (¬ In retired o) × (¬ In queued o) × (¬ In reclaimed o)
+LifeKept Life.Retired o retired queued reclaimed = In retired o × (¬ In queued o) × (¬ In reclaimed o)
+LifeKept Life.Queued o retired queued reclaimed = In retired o × In queued o × (¬ In reclaimed o)
+LifeKept Life.Reclaimed o retired queued reclaimed = In retired o × In queued o × In reclaimed o
 
 -- it stands in a queue
 abbrev pub Found : List QueueState → ObjectId → Type 0
@@ -26,9 +20,13 @@ Found qs o = (j : ℕ) × (t : ℕ) × (j < length qs) × InQueue (queue_at qs j
 -- objects and the items of queues: who is queued stands in one queue, at one place
 pub record ItemsKept (os : List ObjectState) (qs : List QueueState) (retired queued reclaimed : List ObjectId) : Type 0 where
   pub lives : (o : ObjectId) → LifeKept (life_of os o) o retired queued reclaimed
-  pub found : (o : ObjectId) → life_of os o ≡ life.Queued → Found qs o
-  pub there : (j t : ℕ) (o : ObjectId) → InQueue (queue_at qs j) t o → life_of os o ≡ life.Queued
+  pub found : (o : ObjectId) → life_of os o ≡ Life.Queued → Found qs o
+  pub there : (j t : ℕ) (o : ObjectId) → InQueue (queue_at qs j) t o → life_of os o ≡ Life.Queued
   pub one_place : (i j s t : ℕ) (o : ObjectId) → InQueue (queue_at qs i) s o → InQueue (queue_at qs j) t o → (i ≡ j) × (s ≡ t)
+
+-- what was done with an object that lives so
+pub lives_as : {os : List ObjectState} {qs : List QueueState} {retired queued reclaimed : List ObjectId} → ItemsKept os qs retired queued reclaimed → (o : ObjectId) {l : Life} → life_of os o ≡ l → LifeKept l o retired queued reclaimed
+lives_as {retired = retired} {queued = queued} {reclaimed = reclaimed} k o is = subst (λ (l : Life). LifeKept l o retired queued reclaimed) is (k.lives o)
 
 -- a queue: its counts, and what is ready awaits nobody
 pub record QueueKept (q : QueueState) (logged : ℕ) (awaited : ObjectId → List SectionId) : Type 0 where
@@ -40,10 +38,10 @@ pub record QueueKept (q : QueueState) (logged : ℕ) (awaited : ObjectId → Lis
 
 -- an updater between two steps of a retirement, beside what its queue says
 abbrev pub DueKept : List ObjectState → Bool → ℕ → ℕ → ℕ → ℕ → ObjectId → RetireStep → Type 0
-DueKept os reserved queued given count u o due.Mark = (stage_of os o ≡ stage.Cut) × (life_of os o ≡ life.Kept) × (chain_of os o % count ≡ u) × (reserved ≡ true) × (queued ≡ given)
-DueKept os reserved queued given count u o due.Count = (life_of os o ≡ life.Retired) × (chain_of os o % count ≡ u) × (reserved ≡ true) × (queued ≡ given)
-DueKept os reserved queued given count u o due.Push = (life_of os o ≡ life.Retired) × (chain_of os o % count ≡ u) × (reserved ≡ true) × (queued ≡ given + 1)
-DueKept os reserved queued given count u o due.Free = queued ≡ given
+DueKept os reserved queued given count u o RetireStep.Mark = (stage_of os o ≡ Stage.Cut) × (life_of os o ≡ Life.Kept) × (chain_of os o % count ≡ u) × (reserved ≡ true) × (queued ≡ given)
+DueKept os reserved queued given count u o RetireStep.Count = (life_of os o ≡ Life.Retired) × (chain_of os o % count ≡ u) × (reserved ≡ true) × (queued ≡ given)
+DueKept os reserved queued given count u o RetireStep.Push = (life_of os o ≡ Life.Retired) × (chain_of os o % count ≡ u) × (reserved ≡ true) × (queued ≡ given + 1)
+DueKept os reserved queued given count u o RetireStep.Free = queued ≡ given
 
 -- it holds the queue's lock
 abbrev pub Retiring : List ObjectState → QueueState → ℕ → ℕ → ObjectId → RetireStep → Type 0
@@ -67,22 +65,22 @@ pub record BatchWaits (ready waiting : Items) (noted : Option ℕ) (asked : List
   pub covered : (o : ObjectId) → Has waiting o → Covered awaited asked_sections o ask
 
 abbrev pub BatchKept : {P : Type 0} → Items → Items → Option ℕ → List ℕ → (ObjectId → List SectionId) → (ℕ → List SectionId) → ℕ → ℕ → SyncCore P → Type 0
-BatchKept ready waiting noted asked awaited asked_sections ask tickets core.Asks = (ready ≡ []) × (tickets ≡ length waiting) × (1 ≤ tickets)
-BatchKept ready waiting noted asked awaited asked_sections ask tickets (core.Waits c) = BatchWaits ready waiting noted asked awaited asked_sections ask tickets c
-BatchKept ready waiting noted asked awaited asked_sections ask tickets (core.Checks c) = BatchWaits ready waiting noted asked awaited asked_sections ask tickets c
-BatchKept ready waiting noted asked awaited asked_sections ask tickets (core.Starts c) = BatchWaits ready waiting noted asked awaited asked_sections ask tickets c
-BatchKept ready waiting noted asked awaited asked_sections ask tickets (core.Runs c p) = BatchWaits ready waiting noted asked awaited asked_sections ask tickets c
-BatchKept ready waiting noted asked awaited asked_sections ask tickets core.Frees = (waiting ≡ []) × (tickets ≡ length ready) × (1 ≤ tickets)
-BatchKept ready waiting noted asked awaited asked_sections ask tickets core.Done = ⊥
+BatchKept ready waiting noted asked awaited asked_sections ask tickets SyncCore.Asks = (ready ≡ []) × (tickets ≡ length waiting) × (1 ≤ tickets)
+BatchKept ready waiting noted asked awaited asked_sections ask tickets (SyncCore.Waits c) = BatchWaits ready waiting noted asked awaited asked_sections ask tickets c
+BatchKept ready waiting noted asked awaited asked_sections ask tickets (SyncCore.Checks c) = BatchWaits ready waiting noted asked awaited asked_sections ask tickets c
+BatchKept ready waiting noted asked awaited asked_sections ask tickets (SyncCore.Starts c) = BatchWaits ready waiting noted asked awaited asked_sections ask tickets c
+BatchKept ready waiting noted asked awaited asked_sections ask tickets (SyncCore.Runs c p) = BatchWaits ready waiting noted asked awaited asked_sections ask tickets c
+BatchKept ready waiting noted asked awaited asked_sections ask tickets SyncCore.Frees = (waiting ≡ []) × (tickets ≡ length ready) × (1 ≤ tickets)
+BatchKept ready waiting noted asked awaited asked_sections ask tickets SyncCore.Done = ⊥
 
 -- a worker, beside what its queue says
 abbrev pub WorkKept : {P : Type 0} → Items → Items → Option ℕ → ℕ → ℕ → List ℕ → (ObjectId → List SectionId) → (ℕ → List SectionId) → ℕ → WorkerCore P Unit → Type 0
-WorkKept ready waiting noted gone finished asked awaited asked_sections ask worker.Idle = (ready ≡ []) × (waiting ≡ []) × (finished ≡ gone)
-WorkKept ready waiting noted gone finished asked awaited asked_sections ask (worker.Syncs place tickets) = BatchKept ready waiting noted asked awaited asked_sections ask tickets.left place × (finished ≡ gone) × (tickets.last.0 ≡ gone + tickets.left)
-WorkKept ready waiting noted gone finished asked awaited asked_sections ask (worker.Pops tickets) = (waiting ≡ []) × (tickets.left ≡ length ready) × (1 ≤ tickets.left) × (finished ≡ gone) × (tickets.last.0 ≡ gone + tickets.left)
-WorkKept ready waiting noted gone finished asked awaited asked_sections ask (worker.Runs tickets ticket item) = ⊥
-WorkKept ready waiting noted gone finished asked awaited asked_sections ask (worker.Ran tickets ticket item) = (waiting ≡ []) × (tickets.left ≡ length ready + 1) × (finished + 1 ≡ gone) × (tickets.last.0 + 1 ≡ gone + tickets.left)
-WorkKept ready waiting noted gone finished asked awaited asked_sections ask (worker.Counts tickets ticket) = ⊥
+WorkKept ready waiting noted gone finished asked awaited asked_sections ask WorkerCore.Idle = (ready ≡ []) × (waiting ≡ []) × (finished ≡ gone)
+WorkKept ready waiting noted gone finished asked awaited asked_sections ask (WorkerCore.Syncs place tickets) = BatchKept ready waiting noted asked awaited asked_sections ask tickets.left place × (finished ≡ gone) × (tickets.last.0 ≡ gone + tickets.left)
+WorkKept ready waiting noted gone finished asked awaited asked_sections ask (WorkerCore.Pops tickets) = (waiting ≡ []) × (tickets.left ≡ length ready) × (1 ≤ tickets.left) × (finished ≡ gone) × (tickets.last.0 ≡ gone + tickets.left)
+WorkKept ready waiting noted gone finished asked awaited asked_sections ask (WorkerCore.Runs tickets ticket item) = ⊥
+WorkKept ready waiting noted gone finished asked awaited asked_sections ask (WorkerCore.Ran tickets ticket item) = (waiting ≡ []) × (tickets.left ≡ length ready + 1) × (finished + 1 ≡ gone) × (tickets.last.0 + 1 ≡ gone + tickets.left)
+WorkKept ready waiting noted gone finished asked awaited asked_sections ask (WorkerCore.Counts tickets ticket) = ⊥
 
 abbrev pub WorkAt : {P : Type 0} → QueueState → List ℕ → (ObjectId → List SectionId) → (ℕ → List SectionId) → WorkerState P → Type 0
 WorkAt q asked awaited asked_sections x = WorkKept q.items.ready q.items.waiting q.items.cookie q.items.gone q.finished asked awaited asked_sections x.ask x.core
@@ -156,22 +154,19 @@ pub record Numbers (barriers logged : ℕ) (noted cleared : List ℕ) : Type 0 w
 pub numbers_over : {barriers logged logged' : ℕ} {noted cleared : List ℕ} → logged ≤ logged' → Numbers barriers logged noted cleared → Numbers barriers logged' noted cleared
 numbers_over longer n = record { noted_low = n.noted_low; cleared_noted = n.cleared_noted; barriers_low = let low = n.barriers_low in omega (arith, low, longer) }
 
-pub record CallbacksKept {P : Type 0} (os : List ObjectState) (qs : List QueueState) (updaters : List (UpdaterState P)) (workers : List (WorkerState P)) (barriers logged : ℕ)
-    (sections : List SectionId) (retired queued reclaimed : List ObjectId) (awaited : ObjectId → List SectionId) (asked : List ℕ) (asked_sections : ℕ → List SectionId) (noted cleared : List ℕ) (noted_objects : ℕ → List ObjectId) : Type 0 where
+pub record CallbacksKept {P : Type 0} (os : List ObjectState) (qs : List QueueState) (updaters : List (UpdaterState P)) (workers : List (WorkerState P)) (barriers logged : ℕ) (now : State) : Type 0 where
   pub sizes : Sizes qs workers
-  pub items : ItemsKept os qs retired queued reclaimed
-  pub queues : (j : ℕ) → QueueKept (queue_at qs j) logged awaited
-  pub awaits_open : (o : ObjectId) (s : SectionId) → In (awaited o) s → In sections s
+  pub items : ItemsKept os qs now.retired now.queued now.reclaimed
+  pub queues : (j : ℕ) → QueueKept (queue_at qs j) logged now.awaited
+  pub awaits_open : (o : ObjectId) (s : SectionId) → In (now.awaited o) s → In now.sections s
   pub retiring : (u : ℕ) → RetireKept os qs (length updaters) u (updater_at updaters u).place
-  pub working : (k : ℕ) → WorkAt (queue_at qs k) asked awaited asked_sections (worker_at workers k)
-  pub barring : (u : ℕ) → BarKept qs noted cleared noted_objects (updater_at updaters u).place
+  pub working : (k : ℕ) → WorkAt (queue_at qs k) now.asked now.awaited now.asked_sections (worker_at workers k)
+  pub barring : (u : ℕ) → BarKept qs now.noted now.cleared now.noted_objects (updater_at updaters u).place
   pub one_barrier : (u v n : ℕ) → Barring (updater_at updaters u).place n → Barring (updater_at updaters v).place n → u ≡ v
-  pub numbers : Numbers barriers logged noted cleared
+  pub numbers : Numbers barriers logged now.noted now.cleared
 
 abbrev pub Callbacks : {P : Type 0} → BoardView P → State → Type 0
-Callbacks w now =
-    CallbacksKept w.objects w.queues w.updaters w.workers w.barriers (length w.log)
-    now.sections now.retired now.queued now.reclaimed now.awaited now.asked now.asked_sections now.noted now.cleared now.noted_objects
+Callbacks w now = CallbacksKept w.objects w.queues w.updaters w.workers w.barriers (length w.log) now
 
 -- one queue changes, and what holds of each still holds
 pub at_queues : (F : ℕ → QueueState → Type 0) (f : QueueState → QueueState) (qs : List QueueState) (j : ℕ) → j < length qs → F j (f (queue_at qs j)) → ((i : ℕ) → i ≢ j → F i (queue_at qs i)) → (i : ℕ) → F i (queue_at (changed_at f qs j (slice_get qs j)) i)
@@ -187,45 +182,42 @@ module _ (asked asked' : List ℕ) (awaited awaited' : ObjectId → List Section
   Covers waiting = (o : ObjectId) (a : ℕ) → Has waiting o → In asked a → Covered awaited asked_sections o a → Covered awaited' asked_sections' o a
 
   batch_waits : (ready waiting : Items) (noted : Option ℕ) (ask tickets cookie : ℕ) → Covers waiting → BatchWaits ready waiting noted asked awaited asked_sections ask tickets cookie → BatchWaits ready waiting noted asked' awaited' asked_sections' ask tickets cookie
-  batch_waits ready waiting noted ask tickets cookie covers b = record {
-    none_ready = b.none_ready;
-    count = b.count;
-    some = b.some;
-    is_noted = b.is_noted;
-    was_asked = asks ask b.was_asked;
-    covered = λ o h. covers o ask h b.was_asked (b.covered o h);
-  }
+  batch_waits ready waiting noted ask tickets cookie covers b = assumption (asks ask b.was_asked, λ (o : ObjectId) (h : Has waiting o). covers o ask h b.was_asked (b.covered o h))
 
   batch_kept : {P : Type 0} (ready waiting : Items) (noted : Option ℕ) (ask tickets : ℕ) (place : SyncCore P) → Covers waiting → BatchKept ready waiting noted asked awaited asked_sections ask tickets place → BatchKept ready waiting noted asked' awaited' asked_sections' ask tickets place
-  batch_kept ready waiting noted ask tickets (core.Waits c) covers b = batch_waits ready waiting noted ask tickets c covers b
-  batch_kept ready waiting noted ask tickets (core.Checks c) covers b = batch_waits ready waiting noted ask tickets c covers b
-  batch_kept ready waiting noted ask tickets (core.Starts c) covers b = batch_waits ready waiting noted ask tickets c covers b
-  batch_kept ready waiting noted ask tickets (core.Runs c p) covers b = batch_waits ready waiting noted ask tickets c covers b
+  batch_kept ready waiting noted ask tickets (SyncCore.Waits c) covers b = batch_waits ready waiting noted ask tickets c covers b
+  batch_kept ready waiting noted ask tickets (SyncCore.Checks c) covers b = batch_waits ready waiting noted ask tickets c covers b
+  batch_kept ready waiting noted ask tickets (SyncCore.Starts c) covers b = batch_waits ready waiting noted ask tickets c covers b
+  batch_kept ready waiting noted ask tickets (SyncCore.Runs c p) covers b = batch_waits ready waiting noted ask tickets c covers b
   batch_kept ready waiting noted ask tickets _ covers b = b
 
   work_kept : {P : Type 0} (ready waiting : Items) (noted : Option ℕ) (gone finished ask : ℕ) (place : WorkerCore P Unit) → Covers waiting → WorkKept ready waiting noted gone finished asked awaited asked_sections ask place → WorkKept ready waiting noted gone finished asked' awaited' asked_sections' ask place
-  work_kept ready waiting noted gone finished ask (worker.Syncs place tickets) covers b = (batch_kept ready waiting noted ask tickets.left place covers b.0, b.1, b.2)
+  work_kept ready waiting noted gone finished ask (WorkerCore.Syncs place tickets) covers b = (batch_kept ready waiting noted ask tickets.left place covers b.0, b.1, b.2)
   work_kept ready waiting noted gone finished ask _ covers b = b
 
   pub work_at : {P : Type 0} (q : QueueState) (x : WorkerState P) → Covers q.items.waiting → WorkAt q asked awaited asked_sections x → WorkAt q asked' awaited' asked_sections' x
   work_at q x covers b = work_kept q.items.ready q.items.waiting q.items.cookie q.items.gone q.finished x.ask x.core covers b
 
--- a queue where fewer sections are awaited, and more was logged
-pub queue_kept : (q : QueueState) (logged logged' : ℕ) (awaited awaited' : ObjectId → List SectionId) → logged ≤ logged' → ((o : ObjectId) → awaited o ≡ [] → awaited' o ≡ []) → QueueKept q logged awaited → QueueKept q logged' awaited'
-queue_kept q logged logged' awaited awaited' longer frees k = record {
-  is_open = k.is_open;
-  given_low = let low = k.given_low in omega (arith, low, longer);
-  announced = k.announced;
-  at_rest = k.at_rest;
-  ready_free = λ o h. frees o (k.ready_free o h);
-}
+-- a queue where more was logged
+pub queue_more : {q : QueueState} {logged logged' : ℕ} {awaited : ObjectId → List SectionId} → logged ≤ logged' → QueueKept q logged awaited → QueueKept q logged' awaited
+queue_more {q} {logged' = logged'} more k = let low : given_of q.items ≤ logged' = omega (arith, k.given_low, more) in assumption (low, k)
+
+-- and one where fewer sections are awaited
+queue_frees : {q : QueueState} {logged : ℕ} {awaited : ObjectId → List SectionId} (awaited' : ObjectId → List SectionId) → ((o : ObjectId) → awaited o ≡ [] → awaited' o ≡ []) → QueueKept q logged awaited → QueueKept q logged awaited'
+queue_frees {q} awaited' frees k = assumption (k, λ (o : ObjectId) (h : Has q.items.ready o). frees o (k.ready_free o h))
+
+-- a queue with other items, as many of which were given, where what is ready is free
+pub items_kept : (q : QueueState) (items : ItemQueue (Item Unit)) (logged : ℕ) (awaited : ObjectId → List SectionId) → QueueKept q logged awaited → items.closed ≡ q.items.closed → given_of items ≡ given_of q.items → ((o : ObjectId) → Has items.ready o → awaited o ≡ []) →
+    QueueKept (record q { items = items }) logged awaited
+items_kept q items logged awaited k same given free =
+    record { is_open = same ∙ k.is_open; given_low = subst (λ n. n ≤ logged) (sym given) k.given_low; announced = subst (λ n. n ≤ q.queued) (sym given) k.announced; at_rest = λ e. k.at_rest e ∙ sym given; ready_free = free }
 
 -- events of readers, of those who publish and of those who ask
 abbrev pub IsOther : Event → Type 0
 IsOther (Retire o) = ⊥
 IsOther (Queue o q) = ⊥
 IsOther (Run o) = ⊥
-IsOther (Bar b) = ⊥
+IsOther (Event.Bar b) = ⊥
 IsOther (Clear b) = ⊥
 IsOther _ = Unit {0}
 
@@ -234,67 +226,56 @@ module _ {P : Type 0} (w : BoardView P) (now : State) (k : Callbacks w now) wher
       ((o : ObjectId) (s : SectionId) → In (awaited' o) s → In sections' s) → ((o : ObjectId) → now.awaited o ≡ [] → awaited' o ≡ []) → ((a : ℕ) → In now.asked a → In asked' a) →
       ((o : ObjectId) (a : ℕ) → In now.asked a → Covered now.awaited now.asked_sections o a → Covered awaited' asked_sections' o a) →
       Callbacks w (record now { sections = sections'; awaited = awaited'; asked = asked'; asked_sections = asked_sections' })
-  over_sections sections' awaited' asked' asked_sections' opens frees asks covers = record {
-    sizes = k.sizes;
-    items = k.items;
-    queues = λ j. queue_kept (queue_at w.queues j) (length w.log) (length w.log) now.awaited awaited' (omega arith) frees (k.queues j);
-    awaits_open = opens;
-    retiring = k.retiring;
-    working = λ j. work_at now.asked asked' now.awaited awaited' now.asked_sections asked_sections' asks (queue_at w.queues j) (worker_at w.workers j) (λ o a h. covers o a) (k.working j);
-    barring = k.barring;
-    one_barrier = k.one_barrier;
-    numbers = k.numbers;
-  }
+  over_sections sections' awaited' asked' asked_sections' opens frees asks covers = assumption (
+    opens,
+    λ (j : ℕ). queue_frees awaited' frees (k.queues j),
+    λ (j : ℕ). work_at now.asked asked' now.awaited awaited' now.asked_sections asked_sections' asks (queue_at w.queues j) (worker_at w.workers j) (λ o a h. covers o a) (k.working j),
+  )
 
   -- what such an event keeps
   pub over_event : (e : Event) → IsOther e → IsAllowed now e → Callbacks w (after now e)
-  over_event (Open s) is allowed = over_sections (now.sections ++ s ∷ []) now.awaited now.asked now.asked_sections (λ o t h. in_left now.sections (s ∷ []) t (k.awaits_open o t h)) (λ o e. e) (λ a h. h) (λ o a h c. c)
-  over_event (Close s) is allowed = over_sections (without_section s now.sections) (λ o. without_section s (now.awaited o)) now.asked (λ a. without_section s (now.asked_sections a))
+  over_event (Open s) is allowed = assumption (over_sections (now.sections ++ s ∷ []) now.awaited now.asked now.asked_sections (λ o t h. in_left now.sections (s ∷ []) t (k.awaits_open o t h)) (λ o e. e) (λ a h. h) (λ o a h c. c))
+  over_event (Close s) is allowed = assumption (over_sections (without_section s now.sections) (λ o. without_section s (now.awaited o)) now.asked (λ a. without_section s (now.asked_sections a))
       (λ o t h. let had = without_section_has s (now.awaited o) t h in has_without_section s now.sections t (k.awaits_open o t had.0) had.1)
       (λ o e. ap (without_section s) e) (λ a h. h)
-      (λ o a h c t g. let had = without_section_has s (now.awaited o) t g in has_without_section s (now.asked_sections a) t (c t had.0) had.1)
+      (λ o a h c t g. let had = without_section_has s (now.awaited o) t g in has_without_section s (now.asked_sections a) t (c t had.0) had.1))
   over_event (Retire o) is allowed = absurd is
   over_event (Queue o q) is allowed = absurd is
   over_event (Run o) is allowed = absurd is
-  over_event (Ask a) is allowed = over_sections now.sections now.awaited (a ∷ now.asked) (at_number a now.sections now.asked_sections) k.awaits_open (λ o e. e) (λ b h. inr h)
-      (λ o b h c t g. subst (λ (l : List SectionId). In l t) (sym (at_number_other a b now.sections now.asked_sections (λ e. allowed (has_number_in now.asked a (subst (In now.asked) e h))))) (c t g))
-  over_event (Bar b) is allowed = absurd is
+  over_event (Ask a) is allowed = assumption (over_sections now.sections now.awaited (a ∷ now.asked) (at_number a now.sections now.asked_sections) k.awaits_open (λ o e. e) (λ b h. inr h)
+      (λ o b h c t g. subst (λ (l : List SectionId). In l t) (sym (at_number_other a b now.sections now.asked_sections (λ e. allowed (has_number_in now.asked a (subst (In now.asked) e h))))) (c t g)))
+  over_event (Event.Bar b) is allowed = absurd is
   over_event (Clear b) is allowed = absurd is
-  over_event (First s c None) is allowed = k
-  over_event (Next s o None) is allowed = k
-  over_event _ is allowed = k
+  over_event (First s c None) is allowed = assumption k
+  over_event (Next s o None) is allowed = assumption k
+  over_event _ is allowed = assumption k
 
 -- ---- what a change of one queue keeps of items, of other updaters and of barriers
 
--- a header that is stored is none that another updater's retirement looks at
-pub due_marked : (os : List ObjectState) (m : Mark) (reserved : Bool) (queued given count v : ℕ) (o : ObjectId) (d : RetireStep) →
-    ((life_of os o ≡ life.Kept) ⊎ (life_of os o ≡ life.Retired) → chain_of os o % count ≡ v → o ≢ m.object) → DueKept os reserved queued given count v o d → DueKept (marked_life os (Some m)) reserved queued given count v o d
-due_marked os m reserved queued given count v o due.Mark apart h = (
-  stage_marked os (Some m) o ∙ h.0,
-  life_else os m o (apart (inl h.1) h.2) ∙ h.1,
-  ap (λ c. c % count) (chain_marked os (Some m) o) ∙ h.2,
-  h.3,
-  h.4,
-)
-due_marked os m reserved queued given count v o due.Count apart h = (
-  life_else os m o (apart (inr h.0) h.1) ∙ h.0,
-  ap (λ c. c % count) (chain_marked os (Some m) o) ∙ h.1,
-  h.2,
-  h.3,
-)
-due_marked os m reserved queued given count v o due.Push apart h = (
-  life_else os m o (apart (inr h.0) h.1) ∙ h.0,
-  ap (λ c. c % count) (chain_marked os (Some m) o) ∙ h.1,
-  h.2,
-  h.3,
-)
-due_marked os m reserved queued given count v o due.Free apart h = h
+-- a retirement keeps its place where the table keeps what it looks at
+due_over : (os os' : List ObjectState) (reserved : Bool) (queued given count u : ℕ) (o : ObjectId) (d : RetireStep) → ((life_of os o ≡ Life.Kept) ⊎ (life_of os o ≡ Life.Retired) → chain_of os o % count ≡ u → life_of os' o ≡ life_of os o) →
+    (o.0 < length os → chain_of os' o ≡ chain_of os o) → (stage_of os o ≡ Stage.Cut → stage_of os' o ≡ Stage.Cut) → DueKept os reserved queued given count u o d → DueKept os' reserved queued given count u o d
+due_over os os' reserved queued given count u o d lives chains cuts h = by d h
+  where
+    home : o.0 < length os → chain_of os o % count ≡ u → chain_of os' o % count ≡ u
+    home inside e = ap (λ c. c % count) (chains inside) ∙ e
 
+    by : (d : RetireStep) → DueKept os reserved queued given count u o d → DueKept os' reserved queued given count u o d
+    by RetireStep.Mark h = (cuts h.0, lives (inl h.1) h.2 ∙ h.1, home (within os o (λ e. cc (sym h.0 ∙ e))) h.2, h.3, h.4)
+    by RetireStep.Count h = (lives (inr h.0) h.1 ∙ h.0, home (life_within os o (λ e. cc (sym h.0 ∙ e))) h.1, h.2, h.3)
+    by RetireStep.Push h = (lives (inr h.0) h.1 ∙ h.0, home (life_within os o (λ e. cc (sym h.0 ∙ e))) h.1, h.2, h.3)
+    by RetireStep.Free h = h
+
+retire_over : {P : Type 0} (os os' : List ObjectState) (qs : List QueueState) (count u : ℕ) (p : UpdaterPlace P) → ((o : ObjectId) → (life_of os o ≡ Life.Kept) ⊎ (life_of os o ≡ Life.Retired) → chain_of os o % count ≡ u → life_of os' o ≡ life_of os o) →
+    ((o : ObjectId) → o.0 < length os → chain_of os' o ≡ chain_of os o) → ((o : ObjectId) → stage_of os o ≡ Stage.Cut → stage_of os' o ≡ Stage.Cut) → RetireKept os qs count u p → RetireKept os' qs count u p
+retire_over os os' qs count u (Retires o d) lives chains cuts h =
+    let q = queue_at qs (u % length qs) in (h.0, due_over os os' q.items.reserved q.queued (given_of q.items) count u o d (lives o) (chains o) (cuts o) h.1)
+retire_over os os' qs count u _ lives chains cuts h = tt
+
+-- so it does where a header is stored that it does not look at
 pub retire_marked : {P : Type 0} (os : List ObjectState) (m : Mark) (qs : List QueueState) (count v : ℕ) (p : UpdaterPlace P) →
-    ((o : ObjectId) → (life_of os o ≡ life.Kept) ⊎ (life_of os o ≡ life.Retired) → chain_of os o % count ≡ v → o ≢ m.object) → RetireKept os qs count v p → RetireKept (marked_life os (Some m)) qs count v p
-retire_marked os m qs count v (Retires o d) apart h =
-    (h.0, due_marked os m (queue_at qs (v % length qs)).items.reserved (queue_at qs (v % length qs)).queued (given_of (queue_at qs (v % length qs)).items) count v o d (apart o) h.1)
-retire_marked os m qs count v _ apart h = tt
+    ((o : ObjectId) → (life_of os o ≡ Life.Kept) ⊎ (life_of os o ≡ Life.Retired) → chain_of os o % count ≡ v → o ≢ m.object) → RetireKept os qs count v p → RetireKept (marked_life os (Some m)) qs count v p
+retire_marked os m qs count v p apart = retire_over os (marked_life os (Some m)) qs count v p (λ o is home. life_else os m o (apart o is home)) (λ o _. chain_marked os (Some m) o) (λ o e. stage_marked os (Some m) o ∙ e)
 
 -- who stands in a queue stands in one of others, where each place is kept
 pub found_over : (qs qs' : List QueueState) (o : ObjectId) → length qs' ≡ length qs → ((j t : ℕ) → InQueue (queue_at qs j) t o → InQueue (queue_at qs' j) t o) → Found qs o → Found qs' o
@@ -361,8 +342,8 @@ module _ (qs : List QueueState) (j : ℕ) (f : QueueState → QueueState) (insid
         at_queues (λ i r. InQueue r t o → InQueue (queue_at qs i) t o) f qs j inside
         (λ h. subst (λ l. Stands q.items.gone l t o) items (subst (λ n. Stands n (items_of (f q).items) t o) gone h)) (λ i n h. h) i
 
-    pub items_stay : (os : List ObjectState) (retired queued reclaimed : List ObjectId) → ItemsKept os qs retired queued reclaimed → ItemsKept os qs' retired queued reclaimed
-    items_stay os retired queued reclaimed k = record {
+    pub items_stay : {os : List ObjectState} {retired queued reclaimed : List ObjectId} → ItemsKept os qs retired queued reclaimed → ItemsKept os qs' retired queued reclaimed
+    items_stay k = record {
       lives = k.lives;
       found = λ o e. found_over qs qs' o (changed_length f qs j) (λ i t. stays i t o) (k.found o e);
       there = λ i t o h. k.there i t o (was_there i t o h);
@@ -375,74 +356,47 @@ module _ (qs : List QueueState) (j : ℕ) (f : QueueState → QueueState) (insid
 abbrev pub IsPlain : {P : Type 0} → UpdaterPlace P → Type 0
 IsPlain p = BarsNone p × RetiresNone p
 
--- one updater is set, of which no barrier was or is under way
-pub one_barrier_set : {P : Type 0} (updaters : List (UpdaterState P)) (u : ℕ) (x : UpdaterState P) → u < length updaters → ((n : ℕ) → ¬ Barring x.place n) →
-    ((i j n : ℕ) → Barring (updater_at updaters i).place n → Barring (updater_at updaters j).place n → i ≡ j) →
-    (i j n : ℕ) → Barring (updater_at (slice_set updaters u x) i).place n → Barring (updater_at (slice_set updaters u x) j).place n → i ≡ j
-one_barrier_set {P} updaters u x inside none k i j n a b = k i j n (was i a) (was j b)
-  where
-    was : (v : ℕ) → Barring (updater_at (slice_set updaters u x) v).place n → Barring (updater_at updaters v).place n
-    was = at_updaters (λ v y. Barring y.place n → Barring (updater_at updaters v).place n) updaters u x inside (λ h. absurd (none n h)) (λ v apart h. h)
+-- what updaters keep of callbacks
+pub record UpdatersKept {P : Type 0} (os : List ObjectState) (qs : List QueueState) (updaters : List (UpdaterState P)) (noted cleared : List ℕ) (noted_objects : ℕ → List ObjectId) : Type 0 where
+  pub retiring : (u : ℕ) → RetireKept os qs (length updaters) u (updater_at updaters u).place
+  pub barring : (u : ℕ) → BarKept qs noted cleared noted_objects (updater_at updaters u).place
+  pub one_barrier : (u v n : ℕ) → Barring (updater_at updaters u).place n → Barring (updater_at updaters v).place n → u ≡ v
 
--- a retirement keeps its place where the table keeps what it looks at
-due_over : (os os' : List ObjectState) (reserved : Bool) (queued given count u : ℕ) (o : ObjectId) (d : RetireStep) → ((p : ObjectId) → life_of os' p ≡ life_of os p) → ((p : ObjectId) → p.0 < length os → chain_of os' p ≡ chain_of os p) →
-    ((p : ObjectId) → stage_of os p ≡ stage.Cut → stage_of os' p ≡ stage.Cut) → DueKept os reserved queued given count u o d → DueKept os' reserved queued given count u o d
-due_over os os' reserved queued given count u o d lives chains cuts h = by d h
-  where
-    home : o.0 < length os → chain_of os o % count ≡ u → chain_of os' o % count ≡ u
-    home inside e = ap (λ c. c % count) (chains o inside) ∙ e
-
-    by : (d : RetireStep) → DueKept os reserved queued given count u o d → DueKept os' reserved queued given count u o d
-    by due.Mark h = (cuts o h.0, lives o ∙ h.1, home (within os o (λ e. cc (sym h.0 ∙ e))) h.2, h.3, h.4)
-    by due.Count h = (lives o ∙ h.0, home (life_within os o (λ e. cc (sym h.0 ∙ e))) h.1, h.2, h.3)
-    by due.Push h = (lives o ∙ h.0, home (life_within os o (λ e. cc (sym h.0 ∙ e))) h.1, h.2, h.3)
-    by due.Free h = h
-
-pub retire_over : {P : Type 0} (os os' : List ObjectState) (qs : List QueueState) (count u : ℕ) (p : UpdaterPlace P) → ((p : ObjectId) → life_of os' p ≡ life_of os p) → ((p : ObjectId) → p.0 < length os → chain_of os' p ≡ chain_of os p) →
-    ((p : ObjectId) → stage_of os p ≡ stage.Cut → stage_of os' p ≡ stage.Cut) → RetireKept os qs count u p → RetireKept os' qs count u p
-retire_over os os' qs count u (Retires o d) lives chains cuts h = (h.0, due_over os os' (queue_at qs (u % length qs)).items.reserved (queue_at qs (u % length qs)).queued (given_of (queue_at qs (u % length qs)).items) count u o d lives chains cuts h.1)
-retire_over os os' qs count u _ lives chains cuts h = tt
+-- one updater is set, whose barrier is no other's
+pub updaters_set : {P : Type 0} (os : List ObjectState) (qs : List QueueState) (updaters : List (UpdaterState P)) (noted cleared : List ℕ) (noted_objects : ℕ → List ObjectId) (u : ℕ) (x : UpdaterState P) → u < length updaters →
+    RetireKept os qs (length updaters) u x.place → ((v : ℕ) → v ≢ u → RetireKept os qs (length updaters) v (updater_at updaters v).place) → BarKept qs noted cleared noted_objects x.place → ((v : ℕ) → v ≢ u → BarKept qs noted cleared noted_objects (updater_at updaters v).place) →
+    ((n v : ℕ) → v ≢ u → Barring x.place n → Barring (updater_at updaters v).place n → ⊥) → ((u v n : ℕ) → Barring (updater_at updaters u).place n → Barring (updater_at updaters v).place n → u ≡ v) → UpdatersKept os qs (slice_set updaters u x) noted cleared noted_objects
+updaters_set os qs updaters noted cleared noted_objects u x inside retires retire bars bar alone one = record {
+  retiring = subst (λ n. (v : ℕ) → RetireKept os qs n v (updater_at (slice_set updaters u x) v).place) (sym (length-set updaters u x)) (at_updaters (λ v y. RetireKept os qs (length updaters) v y.place) updaters u x inside retires retire);
+  barring = at_updaters (λ v y. BarKept qs noted cleared noted_objects y.place) updaters u x inside bars bar;
+  one_barrier = λ i j n. at_updaters (λ i y. Barring y.place n → Barring (updater_at (slice_set updaters u x) j).place n → i ≡ j) updaters u x inside
+      (λ a. at_updaters (λ j y. Barring y.place n → u ≡ j) updaters u x inside (λ b. refl) (λ v apart b. absurd (alone n v apart a b)) j)
+      (λ i apart a. at_updaters (λ j y. Barring y.place n → i ≡ j) updaters u x inside (λ b. absurd (alone n i apart b a)) (λ v other b. one i v n a b) j) i;
+}
 
 module _ {P : Type 0} (w : BoardView P) (now : State) (k : Callbacks w now) where
   -- only readers, chains and grace periods change
   over_table : (os' : List ObjectState) (u : ℕ) (x : UpdaterState P) (logged' : ℕ) → u < length w.updaters → IsPlain x.place → length w.log ≤ logged' →
-      ((o : ObjectId) → life_of os' o ≡ life_of w.objects o) → ((o : ObjectId) → o.0 < length w.objects → chain_of os' o ≡ chain_of w.objects o) → ((o : ObjectId) → stage_of w.objects o ≡ stage.Cut → stage_of os' o ≡ stage.Cut) →
-      CallbacksKept os' w.queues (slice_set w.updaters u x) w.workers w.barriers logged' now.sections now.retired now.queued now.reclaimed now.awaited now.asked now.asked_sections now.noted now.cleared now.noted_objects
-  over_table os' u x logged' inside plain more lives chains cuts = record {
-    sizes = k.sizes;
-    items = record {
-      lives = λ o. subst (λ (l : Life). LifeKept l o now.retired now.queued now.reclaimed) (sym (lives o)) (k.items.lives o);
-      found = λ o e. k.items.found o (sym (lives o) ∙ e);
-      there = λ j t o h. lives o ∙ k.items.there j t o h;
-      one_place = k.items.one_place;
-    };
-    queues = λ j. queue_kept (queue_at w.queues j) (length w.log) logged' now.awaited now.awaited more (λ o e. e) (k.queues j);
-    awaits_open = k.awaits_open;
-    retiring = subst (λ n. (v : ℕ) → RetireKept os' w.queues n v (updater_at (slice_set w.updaters u x) v).place) (sym (length-set w.updaters u x))
-        (at_updaters (λ v y. RetireKept os' w.queues (length w.updaters) v y.place) w.updaters u x inside (retires_none os' w.queues (length w.updaters) u x.place plain.1)
-        (λ v apart. retire_over w.objects os' w.queues (length w.updaters) v (updater_at w.updaters v).place lives chains cuts (k.retiring v)));
-    working = k.working;
-    barring = at_updaters (λ v y. BarKept w.queues now.noted now.cleared now.noted_objects y.place) w.updaters u x inside (bars_kept w.queues now.noted now.cleared now.noted_objects x.place plain.0) (λ v apart. k.barring v);
-    one_barrier = one_barrier_set w.updaters u x inside (λ n. bars_none x.place n plain.0) k.one_barrier;
-    numbers = numbers_over more k.numbers;
-  }
+      ((o : ObjectId) → life_of os' o ≡ life_of w.objects o) → ((o : ObjectId) → o.0 < length w.objects → chain_of os' o ≡ chain_of w.objects o) → ((o : ObjectId) → stage_of w.objects o ≡ Stage.Cut → stage_of os' o ≡ Stage.Cut) →
+      CallbacksKept os' w.queues (slice_set w.updaters u x) w.workers w.barriers logged' now
+  over_table os' u x logged' inside plain more lives chains cuts = let items : ItemsKept os' w.queues now.retired now.queued now.reclaimed = record {
+    lives = λ o. subst (λ (l : Life). LifeKept l o now.retired now.queued now.reclaimed) (sym (lives o)) (k.items.lives o);
+    found = λ o e. k.items.found o (sym (lives o) ∙ e);
+    there = λ j t o h. lives o ∙ k.items.there j t o h;
+    one_place = k.items.one_place;
+  } in assumption (
+    items,
+    λ (j : ℕ). queue_more more (k.queues j),
+    updaters_set os' w.queues w.updaters now.noted now.cleared now.noted_objects u x inside (retires_none os' w.queues (length w.updaters) u x.place plain.1)
+        (λ v apart. retire_over w.objects os' w.queues (length w.updaters) v (updater_at w.updaters v).place (λ o _ _. lives o) chains cuts (k.retiring v))
+        (bars_kept w.queues now.noted now.cleared now.noted_objects x.place plain.0) (λ v apart. k.barring v) (λ n v apart b. absurd (bars_none x.place n plain.0 b)) k.one_barrier,
+    numbers_over more k.numbers,
+  )
 
 -- more is logged
-pub logged_more : {P : Type 0} {os : List ObjectState} {qs : List QueueState} {updaters : List (UpdaterState P)} {workers : List (WorkerState P)} {barriers logged : ℕ}
-    {sections : List SectionId} {retired queued reclaimed : List ObjectId} {awaited : ObjectId → List SectionId} {asked : List ℕ} {asked_sections : ℕ → List SectionId} {noted cleared : List ℕ} {noted_objects : ℕ → List ObjectId}
-    (logged' : ℕ) → logged ≤ logged' → CallbacksKept os qs updaters workers barriers logged sections retired queued reclaimed awaited asked asked_sections noted cleared noted_objects →
-    CallbacksKept os qs updaters workers barriers logged' sections retired queued reclaimed awaited asked asked_sections noted cleared noted_objects
-logged_more {qs = qs} {logged = logged} {awaited = awaited} logged' more k = record {
-  sizes = k.sizes;
-  items = k.items;
-  queues = λ j. queue_kept (queue_at qs j) logged logged' awaited awaited more (λ o e. e) (k.queues j);
-  awaits_open = k.awaits_open;
-  retiring = k.retiring;
-  working = k.working;
-  barring = k.barring;
-  one_barrier = k.one_barrier;
-  numbers = numbers_over more k.numbers;
-}
+pub logged_more : {P : Type 0} {os : List ObjectState} {qs : List QueueState} {updaters : List (UpdaterState P)} {workers : List (WorkerState P)} {barriers logged : ℕ} {now : State} (logged' : ℕ) → logged ≤ logged' →
+    CallbacksKept os qs updaters workers barriers logged now → CallbacksKept os qs updaters workers barriers logged' now
+logged_more logged' more k = assumption (λ (j : ℕ). queue_more more (k.queues j), numbers_over more k.numbers)
 
 abbrev pub AreOther : List Event → Type 0
 AreOther [] = Unit {0}
@@ -462,22 +416,22 @@ over_events w now (e ∷ es) is allowed k = over_events w (after now e) es is.1 
 
 -- what was cut stays cut
 cut_grows : (now : State) (e : Event) (o : ObjectId) → In now.cut o → In (after now e).cut o
-cut_grows now (events.Replace c p q) o h = inr h
-cut_grows now (events.Cut c p) o h = inr h
-cut_grows now (events.First s c None) o h = h
-cut_grows now (events.Next s p None) o h = h
+cut_grows now (Event.Replace c p q) o h = inr h
+cut_grows now (Event.Cut c p) o h = inr h
+cut_grows now (Event.First s c None) o h = h
+cut_grows now (Event.Next s p None) o h = h
 cut_grows now _ o h = h
 
 -- changes that callbacks do not notice
 abbrev pub PlainChange : {P : Type 0} → BoardView P → Change P → Type 0
 PlainChange w (Read r step) = AreOther (told step.answer)
-PlainChange w (Begin u x y) = (u < length w.updaters) × IsPlain x.place × (y.life ≡ life.Kept) × (y.stage ≡ stage.Fresh)
+PlainChange w (Begin u x y) = (u < length w.updaters) × IsPlain x.place × (y.life ≡ Life.Kept) × (y.stage ≡ Stage.Fresh)
 PlainChange w (Publish u x s e) = (u < length w.updaters) × IsPlain x.place × IsOther e
 PlainChange w (Grace u x grace answer) = (u < length w.updaters) × IsPlain x.place × AreOther (told answer)
 PlainChange w (Stay answer) = Unit {0}
 PlainChange w _ = ⊥
 
-module _ {P : Type 0} (plans : Plans P) (layout : Layout) (slots : ℕ) (laws : Laws plans layout slots) (w : BoardView P) (now : State) (kept : Kept plans layout slots laws w now) (k : Callbacks w now) where
+module _ {P : Type 0} {plans : Plans P} {layout : Layout} {slots : ℕ} {laws : Laws plans layout slots} {w : BoardView P} {now : State} (kept : Kept plans layout slots laws w now) (k : Callbacks w now) where
   -- what a change owes, with its callbacks
   abbrev pub OwesAll : Result (Change P) Refusal → Type 0
   OwesAll (Err e) = Unit {0}

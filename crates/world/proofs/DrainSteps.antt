@@ -1,24 +1,11 @@
 -- A drain's steps: where a worker stands alone, its next line is made, and leads to where it stands with one step less.
-use Rattle.world.proofs.Cited.{nil_from_length, ◌≡◌, ◌≢◌, ◌↔◌, ℕ, zero, suc, ◌+◌, ◌*◌, ◌%◌, ◌^◌, ◌<◌, ◌≤◌, ltb, cond_both, Bool, true, false, not, List, [], ◌∷◌, length, length-append, slice_get, slice_set, Option, Some, None, Result, Ok, refl, sym, ap, ◌∙◌, subst, arith, or_parts, le-leb, lt-leb, lt-ltb, ltb-true, ltb-false, Refusal, Layout, Narrow, Wide, Item, items_of, after_advance, Action, Load, StoreSeq, Finished, after_loads, FinishesAfter, each_turn, turn_at, turn_count, went_on, SyncCore, WorkerCore, rest_of, turned, is_finished, Change, Work, Answer, Quiet, Worker, Mark, QueueAct, QueueState, ReaderState, GraceState, Holder, WorkerState, acted, changed_at, is_open_in, Items, Plans, BoardView, told, ◌-◌, cond, replicate, Err, ne_eqb, Busy, Exhausted, get_or_from_slice_get, none_some, empty_queue_state, inl, inr, MembPlan, QsbrPlan, Line}
+use Rattle.world.proofs.Cited.{nil_from_length, ◌≡◌, ◌≢◌, ◌↔◌, ℕ, zero, suc, ◌+◌, ◌*◌, ◌%◌, ◌^◌, ◌<◌, ◌≤◌, ltb, cond_both, Bool, true, false, not, List, [], ◌∷◌, length, length-append, slice_get, slice_set, Option, Some, None, Result, Ok, refl, sym, ap, ◌∙◌, subst, arith, or_parts, le-leb, lt-leb, lt-ltb, ltb-true, ltb-false, Refusal, Layout, Narrow, Wide, Item, items_of, after_advance, Action, Load, StoreSeq, Finished, after_loads, FinishesAfter, each_turn, turn_at, turn_count, went_on, SyncCore, WorkerCore, rest_of, turned, is_finished, Change, Work, Answer, Quiet, Worker, Mark, QueueAct, QueueState, ReaderState, GraceState, Holder, WorkerState, acted, changed_at, is_open_in, Items, Plans, BoardView, told, ◌-◌, cond, replicate, Err, ne_eqb, Busy, Exhausted, get_or_from_slice_get, none_some, empty_queue_state, inl, inr, MembPlan, QsbrPlan, Line, Turn, WorkerVerb, stepped, loaded_word, action_effect, lock_effect, done_with, plan_now, operation_test, change_of, with_change, outcome_of, world_after, IsPrompt, IsMade, OfMemb, OfQsbr, memb_plans, qsbr_plans, worked, worker_on, with_core, is_resting, is_none_left, some_open, IsWork, steps_for, drain_lines, is_busy, items_in, items_to_drain, steps_with, HasDrained, AreMadeFrom, Tells, Drains, IsSettled, AreMade, MeetsDrain, IsReached, slice_get_within, slice_get-get_or, length-set, get_or-set_same}
 use Rattle.callback_queue.specs.Queue.{Queue}
-use Rattle.gp_memb.specs.declared.plan.Turn.TheVariants as turns
-use Rattle.call_rcu_worker.specs.declared.sync.SyncCore.TheVariants as core
 use Rattle.call_rcu_worker.specs.declared.worker.Tickets.{Tickets}
-use Rattle.call_rcu_worker.specs.declared.worker.WorkerCore.TheVariants as worker
-use Rattle.world_state.specs.declared.line.WorkerVerb.TheVariants as verb
-use Rattle.world_state.specs.declared.queue.QueueAct.TheVariants as act
-use Rattle.world_state.specs.declared.updater.Holder.TheVariants as holder
-use Rattle.world.specs.Grace.{stepped, loaded_word, action_effect, lock_effect, done_with, plan_now}
-use Rattle.world.specs.Lines.{operation_test, change_of, with_change, outcome_of, world_after}
 use Rattle.world.specs.Row.{after, made}
-use Rattle.world.specs.Steps.{IsPrompt, IsMade, OfMemb, OfQsbr, memb_plans, qsbr_plans}
-use Rattle.world.specs.Workers.{worked, worker_on, with_core, is_resting, is_none_left}
-use Rattle.world.specs.Drain.{some_open, IsWork, steps_for, drain_lines, is_busy, items_in, items_to_drain, steps_with, HasDrained, AreMadeFrom, Tells, Drains, IsSettled, AreMade, MeetsDrain}
-use Rattle.world.proofs.GraceRows.{unplanned}
+use Rattle.world.proofs.Rows.{unplanned, rest_tells, not_false, none_is}
 use Rattle.std.specs.Prelude.{is_some}
-use Rattle.world.specs.Reached.{IsReached}
 use Rattle.world.proofs.Promises.{reached_step, memb_lines, qsbr_lines}
-use Rattle.world.proofs.Rows.{rest_tells, not_false, none_is}
 use Rattle.world.proofs.WorkerSteps.{all_fresh}
 use Rattle.world.proofs.Fence.{Laws, Work as Works, Holds}
 use Rattle.world.proofs.Moving.{work_now}
@@ -37,16 +24,14 @@ closed_at qsbr layout (v ∷ vs) zero e = (or_parts (is_open_in qsbr layout v.wo
 closed_at qsbr layout (v ∷ vs) (suc slot) e = closed_at qsbr layout vs slot (or_parts (is_open_in qsbr layout v.word) _ e).1
 
 -- so a turn that loads one goes on, whatever is due
-closed_step : (qsbr : Bool) (mine layout : Layout) (present word : ℕ) (a : Action) → (qsbr ≡ false → mine ≡ layout) → is_open_in qsbr layout word ≡ false → turn_at qsbr mine present a word ≡ turns.Step
+closed_step : (qsbr : Bool) (mine layout : Layout) (present word : ℕ) (a : Action) → (qsbr ≡ false → mine ≡ layout) → is_open_in qsbr layout word ≡ false → turn_at qsbr mine present a word ≡ Turn.Step
 closed_step false mine layout present word (Load slot) same closed = rw (same refl, closed)
 closed_step true mine layout present word (Load slot) same closed = rw closed
 closed_step qsbr mine layout present word _ same closed = refl
 
 set_there : {X : Type 0} (xs : List X) (k : ℕ) (x y : X) → slice_get xs k ≡ Some x → slice_get (slice_set xs k y) k ≡ Some y
-set_there [] zero x y e = absurd (cc)
-set_there [] (suc k) x y e = absurd (cc)
-set_there (z ∷ zs) zero x y e = refl
-set_there (z ∷ zs) (suc k) x y e = set_there zs k x y e
+set_there xs k x y there =
+    let inside = slice_get_within xs k x there in slice_get-get_or (slice_set xs k y) k y (subst (λ n. k < n) (sym (length-set xs k y)) inside) ∙ ap Some (get_or-set_same xs k y y inside)
 
 -- how many items are ready, and how many wait, of a batch of this many; none is fresh
 abbrev pub Batch : Queue (Item Unit) → ℕ → ℕ → ℕ → Type 0
@@ -70,7 +55,7 @@ module _ {P : Type 0} (plans : Plans P) (layout : Layout) where
     pub finishes : FinishesAfter plans.action plans.turn plans.taken each_turn p rest
     pub last : (words : List ℕ) (word : ℕ) → plans.action (after_loads plans.taken p words) ≢ Finished →
         (plans.action (plans.taken (after_loads plans.taken p words) word) ≡ Finished) ↔ (plans.action (after_loads plans.taken p words) ≡ StoreSeq (seq + 2))
-    pub goes_on : (words : List ℕ) (word : ℕ) → is_open_in plans.qsbr layout word ≡ false → plans.turn (after_loads plans.taken p words) word ≡ turns.Step
+    pub goes_on : (words : List ℕ) (word : ℕ) → is_open_in plans.qsbr layout word ≡ false → plans.turn (after_loads plans.taken p words) word ≡ Turn.Step
 
   one_less : (seq rest word : ℕ) (p : P) → is_open_in plans.qsbr layout word ≡ false → Turns seq (suc rest) p → Turns seq rest (plans.taken p word)
   one_less seq rest word p closed t =
@@ -83,7 +68,7 @@ module _ {P : Type 0} (plans : Plans P) (layout : Layout) where
 
   -- so do all whose turns wait exactly where the law says it, and which keep their layout
   pub all_go_on : (layout_of : P → Layout) (present : P → ℕ) → ((p : P) (word : ℕ) → plans.turn p word ≡ turn_at plans.qsbr (layout_of p) (present p) (plans.action p) word) → ((p : P) (word : ℕ) → layout_of (plans.taken p word) ≡ layout_of p) →
-      (p : P) → (plans.qsbr ≡ false → layout_of p ≡ layout) → (words : List ℕ) (word : ℕ) → is_open_in plans.qsbr layout word ≡ false → plans.turn (after_loads plans.taken p words) word ≡ turns.Step
+      (p : P) → (plans.qsbr ≡ false → layout_of p ≡ layout) → (words : List ℕ) (word : ℕ) → is_open_in plans.qsbr layout word ≡ false → plans.turn (after_loads plans.taken p words) word ≡ Turn.Step
   all_go_on layout_of present exact keeps p same [] word closed = exact p word ∙ closed_step plans.qsbr (layout_of p) layout (present p) word (plans.action p) same closed
   all_go_on layout_of present exact keeps p same (load ∷ loads) word closed = all_go_on layout_of present exact keeps (plans.taken p load) (λ e. keeps p load ∙ same e) loads word closed
 
@@ -98,19 +83,19 @@ module _ {P : Type 0} (plans : Plans P) where
   -- how many steps and events are left of a drain, and what is so, where its worker stands there
   module _ (layout : Layout) (count : ℕ) where
     abbrev pub Syncing : GraceState → Queue (Item Unit) → ℕ → ℕ → ℕ → SyncCore P → Type 0
-    Syncing g i t left events core.Asks = (left ≡ count + 4 + 2 * t) × (events ≡ t + 2) × Batch i t 0 t × (g.holder ≡ None) × (g.seq % 2 ≡ 0) × (g.seq < 2 ^ 62)
-    Syncing g i t left events (core.Waits c) = (left ≡ count + 3 + 2 * t) × (events ≡ t + 1) × Noted i t c g.seq × (g.holder ≡ None)
-    Syncing g i t left events (core.Checks c) = (left ≡ count + 2 + 2 * t) × (events ≡ t + 1) × Noted i t c g.seq
-    Syncing g i t left events (core.Starts c) = (left ≡ count + 1 + 2 * t) × (events ≡ t + 1) × Noted i t c g.seq
-    Syncing g i t left events (core.Runs c p) = (seq : ℕ) × (rest : ℕ) × (1 ≤ rest) × (left ≡ rest + 1 + 2 * t) × (events ≡ t + 1) × Noted i t c seq × Turns plans layout seq rest p
-    Syncing g i t left events core.Frees = (left ≡ 1 + 2 * t) × (events ≡ t) × Batch i t t 0
-    Syncing g i t left events core.Done = ⊥
+    Syncing g i t left events SyncCore.Asks = (left ≡ count + 4 + 2 * t) × (events ≡ t + 2) × Batch i t 0 t × (g.holder ≡ None) × (g.seq % 2 ≡ 0) × (g.seq < 2 ^ 62)
+    Syncing g i t left events (SyncCore.Waits c) = (left ≡ count + 3 + 2 * t) × (events ≡ t + 1) × Noted i t c g.seq × (g.holder ≡ None)
+    Syncing g i t left events (SyncCore.Checks c) = (left ≡ count + 2 + 2 * t) × (events ≡ t + 1) × Noted i t c g.seq
+    Syncing g i t left events (SyncCore.Starts c) = (left ≡ count + 1 + 2 * t) × (events ≡ t + 1) × Noted i t c g.seq
+    Syncing g i t left events (SyncCore.Runs c p) = (seq : ℕ) × (rest : ℕ) × (1 ≤ rest) × (left ≡ rest + 1 + 2 * t) × (events ≡ t + 1) × Noted i t c seq × Turns plans layout seq rest p
+    Syncing g i t left events SyncCore.Frees = (left ≡ 1 + 2 * t) × (events ≡ t) × Batch i t t 0
+    Syncing g i t left events SyncCore.Done = ⊥
 
     abbrev pub Stands : GraceState → Queue (Item Unit) → ℕ → ℕ → WorkerCore P Unit → Type 0
-    Stands g i left events worker.Idle = (left ≡ 0) × (events ≡ 0) × (items_of i ≡ []) × (g.holder ≡ None)
-    Stands g i left events (worker.Syncs sync t) = Syncing g i t.left left events sync
-    Stands g i left events (worker.Pops t) = (left ≡ 2 * t.left) × (events ≡ t.left) × Batch i t.left t.left 0 × (g.holder ≡ None)
-    Stands g i left events (worker.Ran t ticket item) = (suc left ≡ 2 * t.left) × (suc events ≡ t.left) × Batch i t.left events 0 × (g.holder ≡ None)
+    Stands g i left events WorkerCore.Idle = (left ≡ 0) × (events ≡ 0) × (items_of i ≡ []) × (g.holder ≡ None)
+    Stands g i left events (WorkerCore.Syncs sync t) = Syncing g i t.left left events sync
+    Stands g i left events (WorkerCore.Pops t) = (left ≡ 2 * t.left) × (events ≡ t.left) × Batch i t.left t.left 0 × (g.holder ≡ None)
+    Stands g i left events (WorkerCore.Ran t ticket item) = (suc left ≡ 2 * t.left) × (suc events ≡ t.left) × Batch i t.left events 0 × (g.holder ≡ None)
     Stands g i left events _ = ⊥
 
   -- a worker and its queue where nobody is in a section, with this many steps left, after which so many events are told
@@ -166,38 +151,38 @@ module _ {P : Type 0} (plans : Plans P) where
         load = (action_effect w (plans.action p)).loaded
 
         by : (r : ℕ) → Turns plans w.layout seq r (plans.taken p load) → left ≡ r + 1 + 2 * t.left →
-            Made (made (worked k x.ask t (stepped (action_effect w (plans.action p)).grace x.ask (turned plans.action c p (plans.taken p load) turns.Step))))
+            Made (made (worked k x.ask t (stepped (action_effect w (plans.action p)).grace x.ask (turned plans.action c p (plans.taken p load) Turn.Step))))
         by zero v steps =
             let ends = (v.finishes []).1 (omega arith) in
             let stored = ap (λ (a : Action). (action_effect w a).grace.seq) ((u.last [] load (λ f. let d = (u.finishes []).0 f in omega (arith, d))).0 ends) in
             rw ends (leads t.left tt (omega arith) (steps, refl, advanced q.items t.left c seq (action_effect w (plans.action p)).grace.seq n (omega (arith, stored))))
         by (suc r) v steps = rw (unfinished (plans.action (plans.taken p load)) (λ f. let d = (v.finishes []).0 f in omega (arith, d))) (leads events tt (omega arith) (seq, suc r, omega arith, steps, tells, n, v))
 
-    syncs : AreSound → (t : Tickets) (sync : SyncCore P) → Syncing w.layout (turn_count plans.qsbr (length w.readers)) w.grace q.items t.left (suc left) events sync → Made (made (worker_on plans w k x (worker.Syncs sync t)))
-    syncs sound t core.Asks s = rw (lt-ltb w.grace.seq (2 ^ 62) s.5) (leads (t.left + 1) tt (omega arith) (omega arith, refl, (s.2, refl, omega arith), s.3))
-    syncs sound t (core.Waits c) s = subst (λ (h : Option Holder). Made (made (worked k x.ask t (done_with plans w x.ask (core.Waits c) (lock_effect w (holder.Worker k) h))))) (sym s.3) (leads events tt (omega arith) (omega arith, s.1, s.2))
-    syncs sound t (core.Checks c) s = rw (lt-leb c w.grace.seq (omega arith)) (leads events tt (omega arith) (omega arith, s.1, s.2))
-    syncs sound t (core.Starts c) s = turning c t (plan_now plans w) w.grace.seq (turn_count plans.qsbr (length w.readers)) (some_turns plans.qsbr (length w.readers)) s.0 s.1 s.2 (sound w.layout (length w.readers) w.grace.seq w.grace.word)
-    syncs sound t (core.Runs c p) s = rw (unplanned c p (action_effect w (plans.action p)).plan) (turning c t p s.0 s.1 s.2 s.3 s.4 s.5 s.6)
-    syncs sound t core.Frees s = leads events tt (omega arith) (omega arith, s.1, s.2, refl)
-    syncs sound t core.Done s = absurd s
+    syncs : AreSound → (t : Tickets) (sync : SyncCore P) → Syncing w.layout (turn_count plans.qsbr (length w.readers)) w.grace q.items t.left (suc left) events sync → Made (made (worker_on plans w k x (WorkerCore.Syncs sync t)))
+    syncs sound t SyncCore.Asks s = rw (lt-ltb w.grace.seq (2 ^ 62) s.5) (leads (t.left + 1) tt (omega arith) (omega arith, refl, (s.2, refl, omega arith), s.3))
+    syncs sound t (SyncCore.Waits c) s = subst (λ (h : Option Holder). Made (made (worked k x.ask t (done_with plans w x.ask (SyncCore.Waits c) (lock_effect w (Holder.Worker k) h))))) (sym s.3) (leads events tt (omega arith) (omega arith, s.1, s.2))
+    syncs sound t (SyncCore.Checks c) s = rw (lt-leb c w.grace.seq (omega arith)) (leads events tt (omega arith) (omega arith, s.1, s.2))
+    syncs sound t (SyncCore.Starts c) s = turning c t (plan_now plans w) w.grace.seq (turn_count plans.qsbr (length w.readers)) (some_turns plans.qsbr (length w.readers)) s.0 s.1 s.2 (sound w.layout (length w.readers) w.grace.seq w.grace.word)
+    syncs sound t (SyncCore.Runs c p) s = rw (unplanned c p (action_effect w (plans.action p)).plan) (turning c t p s.0 s.1 s.2 s.3 s.4 s.5 s.6)
+    syncs sound t SyncCore.Frees s = leads events tt (omega arith) (omega arith, s.1, s.2, refl)
+    syncs sound t SyncCore.Done s = absurd s
 
-    pops : (t : Tickets) (items : Items) → q.items.ready ≡ items → Stands w.layout (turn_count plans.qsbr (length w.readers)) w.grace q.items (suc left) events (worker.Pops t) → Made (made (worker_on plans w k x (worker.Pops t)))
+    pops : (t : Tickets) (items : Items) → q.items.ready ≡ items → Stands w.layout (turn_count plans.qsbr (length w.readers)) w.grace q.items (suc left) events (WorkerCore.Pops t) → Made (made (worker_on plans w k x (WorkerCore.Pops t)))
     pops t [] e s = absurd (omega (arith, ap length e))
     pops t (item ∷ items) e s = rw (has, e) (leads (length items) tt (omega (arith, ap length e)) (rw e (omega (arith, ap length e), omega (arith, ap length e), (s.2.0, refl, s.2.2, s.2.3), s.3)))
 
     goes : AreSound → (c : WorkerCore P Unit) → Stands w.layout (turn_count plans.qsbr (length w.readers)) w.grace q.items (suc left) events c → Made (made (after (operation_test true (not (is_resting c)) ∷ []) (worker_on plans w k x c)))
-    goes sound worker.Idle s = absurd (omega arith)
-    goes sound (worker.Syncs sync t) s = syncs sound t sync s
-    goes sound (worker.Pops t) s = pops t q.items.ready refl s
-    goes sound (worker.Runs t ticket item) s = absurd s
-    goes sound (worker.Ran t ticket item) s = cond_both (ltb 1 t.left) (worker.Pops (rest_of t)) worker.Idle (λ (c : WorkerCore P Unit). Made (Ok (Work k (with_core x c) w.grace act.Finish None Quiet)))
+    goes sound WorkerCore.Idle s = absurd (omega arith)
+    goes sound (WorkerCore.Syncs sync t) s = syncs sound t sync s
+    goes sound (WorkerCore.Pops t) s = pops t q.items.ready refl s
+    goes sound (WorkerCore.Runs t ticket item) s = absurd s
+    goes sound (WorkerCore.Ran t ticket item) s = cond_both (ltb 1 t.left) (WorkerCore.Pops (rest_of t)) WorkerCore.Idle (λ (c : WorkerCore P Unit). Made (Ok (Work k (with_core x c) w.grace QueueAct.Finish None Quiet)))
         (λ more. let m = ltb-true 1 t.left more in leads events tt (omega arith) (omega arith, omega arith, (omega arith, omega arith, s.2.2, s.2.3), s.3))
         (λ none. let m = ltb-false 1 t.left none in leads events tt (omega arith) (omega arith, omega arith, nil_from_length (items_of q.items) (simp length-append (omega arith)), s.3))
-    goes sound (worker.Counts t ticket) s = absurd s
+    goes sound (WorkerCore.Counts t ticket) s = absurd s
 
   -- a line that goes on
-  pub goes_at : AreSound → (w : BoardView P) (k left goal : ℕ) → Drain w k (suc left) goal → Goes w k left goal (change_of plans w (Worker k verb.GoOn))
+  pub goes_at : AreSound → (w : BoardView P) (k left goal : ℕ) → Drain w k (suc left) goal → Goes w k left goal (change_of plans w (Worker k WorkerVerb.GoOn))
   goes_at sound w k left goal d = rw d.is (goes w k left goal d.x d.q d.is d.has d.closed d.events d.logged sound d.x.core d.stands)
 
 -- ---- a drain from its `take` to its last count, on the board's definitions
@@ -212,7 +197,7 @@ steps_count true slots items some = rw (ne_eqb items 0 (λ none. omega (arith, n
 steps_count false slots items some = rw (ne_eqb items 0 (λ none. omega (arith, none, some))) (omega arith)
 
 module _ {P : Type 0} where
-  not_busy : (qsbr : Bool) (w : BoardView P) (x : WorkerState P) (q : QueueState) → is_busy qsbr w x q ≡ false → (some_open qsbr w.layout w.readers ≡ false) × (w.grace.holder ≡ None) × (is_some q.holder ≡ false) × (x.core ≡ worker.Idle)
+  not_busy : (qsbr : Bool) (w : BoardView P) (x : WorkerState P) (q : QueueState) → is_busy qsbr w x q ≡ false → (some_open qsbr w.layout w.readers ≡ false) × (w.grace.holder ≡ None) × (is_some q.holder ≡ false) × (x.core ≡ WorkerCore.Idle)
   not_busy qsbr w x q quiet =
       let a = or_parts (some_open qsbr w.layout w.readers) _ quiet in
       let b = or_parts (is_some w.grace.holder) _ a.1 in
@@ -250,10 +235,10 @@ module _ {P : Type 0} where
 
 module _ {P : Type 0} (plans : Plans P) where
   abbrev next : BoardView P → ℕ → BoardView P
-  next w k = (outcome_of plans w (Worker k verb.GoOn)).world
+  next w k = (outcome_of plans w (Worker k WorkerVerb.GoOn)).world
 
   -- the lines that are left of a drain are made
-  finish : AreSound plans → (w : BoardView P) (k left goal : ℕ) → Drain plans w k left goal → AreMadeFrom plans w (replicate left (Worker k verb.GoOn)) × Drain plans (world_after plans w (replicate left (Worker k verb.GoOn))) k 0 goal
+  finish : AreSound plans → (w : BoardView P) (k left goal : ℕ) → Drain plans w k left goal → AreMadeFrom plans w (replicate left (Worker k WorkerVerb.GoOn)) × Drain plans (world_after plans w (replicate left (Worker k WorkerVerb.GoOn))) k 0 goal
   finish sound w k zero goal d = (tt, d)
   finish sound w k (suc left) goal d =
       let g = goes_at plans sound w k left goal d in
@@ -265,21 +250,21 @@ module _ {P : Type 0} (plans : Plans P) where
   ended w k goal d = by d.x.core refl d.stands
     where
       by : (c : WorkerCore P Unit) → d.x.core ≡ c → Stands plans w.layout (turn_count plans.qsbr (length w.readers)) w.grace d.q.items 0 d.events c → (length w.log ≡ goal) × (IsSettled w → HasDrained w k)
-      by worker.Idle idle s = (omega (arith, d.logged), λ settled. rw (d.is, d.has) (idle, (s.2, (settled.rested k d.x d.q d.is d.has idle).2), s.3))
-      by (worker.Syncs core.Asks t) idle s = absurd (omega arith)
-      by (worker.Syncs _ t) idle s = absurd (omega arith)
+      by WorkerCore.Idle idle s = (omega (arith, d.logged), λ settled. rw (d.is, d.has) (idle, (s.2, (settled.rested k d.x d.q d.is d.has idle).2), s.3))
+      by (WorkerCore.Syncs SyncCore.Asks t) idle s = absurd (omega arith)
+      by (WorkerCore.Syncs _ t) idle s = absurd (omega arith)
       by _ idle s = absurd (omega arith)
 
   -- the loop of a drain: the lines that are left lead to this board, and the log has room for all that is told
   pub record Under (final w : BoardView P) (k left goal room : ℕ) : Type 0 where
     pub drain : Drain plans w k left goal
-    pub leads_to : world_after plans w (replicate left (Worker k verb.GoOn)) ≡ final
+    pub leads_to : world_after plans w (replicate left (Worker k WorkerVerb.GoOn)) ≡ final
     pub reached : IsReached plans w
     pub fits : goal ≤ room
 
   -- a round of the loop
   pub record Round (final w : BoardView P) (k left goal room : ℕ) : Type 0 where
-    pub work : IsWork (change_of plans w (Worker k verb.GoOn))
+    pub work : IsWork (change_of plans w (Worker k WorkerVerb.GoOn))
     pub fits : length (next w k).log ≤ room
     pub under : Under final (next w k) k left goal room
 
@@ -290,14 +275,14 @@ module _ {P : Type 0} (plans : Plans P) where
       record {
         work = g.work;
         fits = let logged = g.drain.logged in let fits = u.fits in omega (arith, logged, fits);
-        under = record { drain = g.drain; leads_to = u.leads_to; reached = reached_step plans w (Worker k verb.GoOn) u.reached; fits = u.fits };
+        under = record { drain = g.drain; leads_to = u.leads_to; reached = reached_step plans w (Worker k WorkerVerb.GoOn) u.reached; fits = u.fits };
       }
 
   module _ (w : BoardView P) (k items : ℕ) (e : items_to_drain plans.qsbr w k ≡ Ok items) (s : IsSettled w) where
     b : Begins plans.qsbr w k items
     b = begins plans.qsbr w k items e
 
-    rests : (some_open plans.qsbr w.layout w.readers ≡ false) × (w.grace.holder ≡ None) × (is_some b.q.holder ≡ false) × (b.x.core ≡ worker.Idle)
+    rests : (some_open plans.qsbr w.layout w.readers ≡ false) × (w.grace.holder ≡ None) × (is_some b.q.holder ≡ false) × (b.x.core ≡ WorkerCore.Idle)
     rests = not_busy plans.qsbr w b.x b.q b.quiet
 
     empty : (b.q.items.ready ≡ []) × (b.q.items.waiting ≡ []) × (b.q.finished ≡ b.q.items.gone)
@@ -315,7 +300,7 @@ module _ {P : Type 0} (plans : Plans P) where
       abbrev goal : ℕ
       goal = length w.log + (items + 2)
 
-      first : Goes plans w k behind goal (change_of plans w (Worker k verb.Take))
+      first : Goes plans w k behind goal (change_of plans w (Worker k WorkerVerb.Take))
       first =
           let fresh = sym (ap length (all_fresh b.q.items empty.0 empty.1)) ∙ b.count in
           rw (b.is, rests.3, b.has, rests.2, some_left (items_of b.q.items) (λ none. let n = sym b.count ∙ ap length none in omega (arith, n, some)), rests.3, lt-ltb 0 (length b.q.items.fresh) (omega (arith, fresh, some)))
@@ -324,18 +309,18 @@ module _ {P : Type 0} (plans : Plans P) where
       -- all its lines are made, and lead to its end
       whole : (steps : ℕ) → steps ≡ steps_for plans.qsbr (length w.readers) items → AreMadeFrom plans w (drain_lines k steps) × Drain plans (world_after plans w (drain_lines k steps)) k 0 goal
       whole steps is =
-          let r = finish sound ((outcome_of plans w (Worker k verb.Take)).world) k behind goal first.drain in
+          let r = finish sound ((outcome_of plans w (Worker k WorkerVerb.Take)).world) k behind goal first.drain in
           subst (λ n. AreMadeFrom plans w (drain_lines k n) × Drain plans (world_after plans w (drain_lines k n)) k 0 goal) (sym (is ∙ steps_count plans.qsbr (length w.readers) items some)) ((first.made, r.0), r.1)
 
       pub tells : Tells plans w k
       tells = (steps_for plans.qsbr (length w.readers) items, ap (steps_with plans.qsbr (length w.readers)) e, let all = (ended _ k goal (whole _ refl).1).0 in omega (arith, all))
 
       module _ (v : BoardView P) (steps room : ℕ) (count : steps ≡ steps_for plans.qsbr (length w.readers) items) where
-        pub loop_first : IsReached plans w → v ≡ (outcome_of plans w (Worker k verb.Take)).world → goal ≤ room → Under (world_after plans w (drain_lines k steps)) v k (steps - 1) goal room
+        pub loop_first : IsReached plans w → v ≡ (outcome_of plans w (Worker k WorkerVerb.Take)).world → goal ≤ room → Under (world_after plans w (drain_lines k steps)) v k (steps - 1) goal room
         loop_first reached is fits =
             let n = count ∙ steps_count plans.qsbr (length w.readers) items some in
-            rw (is, n) (subst (λ m. Under (world_after plans w (drain_lines k (suc behind))) ((outcome_of plans w (Worker k verb.Take)).world) k m goal room) (let m : behind ≡ suc behind - 1 = omega arith in m)
-            (record { drain = first.drain; leads_to = refl; reached = reached_step plans w (Worker k verb.Take) reached; fits = fits }))
+            rw (is, n) (subst (λ m. Under (world_after plans w (drain_lines k (suc behind))) ((outcome_of plans w (Worker k WorkerVerb.Take)).world) k m goal room) (let m : behind ≡ suc behind - 1 = omega arith in m)
+            (record { drain = first.drain; leads_to = refl; reached = reached_step plans w (Worker k WorkerVerb.Take) reached; fits = fits }))
 
         pub drained : IsSettled v → (done : ℕ) → steps ≤ done → Under (world_after plans w (drain_lines k steps)) v k (steps - done) goal room → Drains plans k w v (Ok steps)
         drained settled done past under =
@@ -347,7 +332,7 @@ module _ {P : Type 0} (plans : Plans P) where
 settled_from : {P : Type 0} (plans : Plans P) (layout : Layout) (slots : ℕ) (laws : Laws plans layout slots) (w : BoardView P) → Logged plans layout slots laws w → slots ≤ 64 → IsSettled w
 settled_from {P} plans layout slots laws w l few = record {
   even = λ free. l.kept.part.grace_kept.even (λ x a c p runs. none_some x (sym (ap holder_of free) ∙ l.kept.part.grace_kept.held x (subst (λ (v : Works P). Holds v) (sym runs) tt)));
-  rested = λ k x q is has idle. rw (get_or_from_slice_get w.queues k q empty_queue_state has) at (work_now plans layout slots laws w l k x worker.Idle (record { was = is; at = idle }));
+  rested = λ k x q is has idle. rw (get_or_from_slice_get w.queues k q empty_queue_state has) at (work_now plans layout slots laws w l k x WorkerCore.Idle (record { was = is; at = idle }));
   few_readers = subst (λ n. n ≤ 64) (sym l.kept.shape.sized) few;
 }
 

@@ -1,22 +1,18 @@
 -- What the steps of updaters that publish, replace and cut keep, and that what they tell may come.
-use Rattle.world.proofs.Cited.{◌≡◌, ◌≢◌, ◌⊎◌, at_number, ⊎_elim, ℕ, true≢false, inl, inr, ◌<◌, ◌%◌, ◌&&◌, cond, Bool, true, false, List, [], ◌∷◌, ◌++◌, length, slice_get, slice_set, Option, Some, None, Ok, refl, sym, ap, ◌∙◌, subst, arith, length-set, eqb-true, and_parts, none-some, same_Some, slice_get_within, get_or_from_slice_get, Event, Push, Replace, Cut, ObjectId, without_object, next_of, replaced, at_object, State, IsAllowed, after, In, in_objects, has_object_in, at_number_same, at_number_other, at_object_same, at_object_other, follows, some_is, none_some, Spliced, push_splices, cut_splices, replace_splices, Layout, Stage, Fresh, Linked, ObjectState, Splice, Publishing, UpdaterState, UpdaterPlace, Idle, Publishes, Syncs, Begin, Publish, fresh_object, is_linked, spliced_heads, spliced_objects, Plans, BoardView, idle, changed, no_object, object_at, head_of, link_of, before_of, stage_of, chain_of, grown_same, LinksKept, FreshIn, PlaceKept, Fits, Follows, monotone, links_spliced, place_spliced, new_object, new_within, stage_grown, links_grown, place_grown, reader_at, readers_over, ◌+◌, ◌^◌, ◌≤◌, get_or-set_other, get_or-set_same, SectionId, Mark, QueueState, GraceState, WorkerState, marked_life, new_worker, links_marked, place_marked, stage_marked}
-use Rattle.world_state.specs.declared.object.Stage.TheVariants.{Cut as IsCut}
-use Rattle.world_state.specs.declared.updater.Publishing.TheVariants as publishing
-use Rattle.world.specs.Chains.{writes, next_object, linked_by}
+use Rattle.world.proofs.Cited.{cond_some, ◌≡◌, ◌≢◌, ◌⊎◌, at_number, ⊎_elim, ℕ, true≢false, inl, inr, ◌<◌, ◌%◌, ◌&&◌, true, false, List, [], ◌∷◌, ◌++◌, length, slice_get, slice_set, Option, Some, None, Ok, refl, sym, ap, ◌∙◌, subst, arith, length-set, eqb-true, and_parts, none-some, slice_get_within, get_or_from_slice_get, Event, Push, Replace, Cut, ObjectId, without_object, next_of, replaced, at_object, State, IsAllowed, after, In, in_objects, has_object_in, at_number_same, at_number_other, at_object_same, at_object_other, follows, some_is, none_some, Spliced, push_splices, cut_splices, replace_splices, Layout, Stage, Fresh, Linked, ObjectState, Splice, Publishing, UpdaterState, UpdaterPlace, Idle, Publishes, Syncs, Begin, Publish, fresh_object, is_linked, spliced_heads, spliced_objects, Plans, BoardView, idle, changed, no_object, object_at, head_of, link_of, before_of, stage_of, chain_of, grown_same, LinksKept, FreshIn, PlaceKept, Fits, Follows, monotone, links_spliced, place_spliced, new_object, new_within, stage_grown, links_grown, place_grown, reader_at, readers_over, ◌+◌, ◌^◌, ◌≤◌, get_or-set_other, get_or-set_same, SectionId, Mark, QueueState, GraceState, WorkerState, marked_life, new_worker, links_marked, place_marked, stage_marked, writes, next_object, linked_by}
 use Rattle.world.proofs.Fence.{Work, Rests, Laws, Sets, Part, set_same}
 use Rattle.world.proofs.State.{Asker, Syncing, decide_asker, place_work, updater_at, work_of, holder_of, word_at, UpdaterKept, Kept, Owes, work_set, at_updaters, Polling, Working, worker_work, worker_at}
 use Rattle.world.proofs.KeptReaders.{log_longer}
 
-module _ {P : Type 0} (plans : Plans P) (layout : Layout) (slots : ℕ) (laws : Laws plans layout slots) (w : BoardView P) (now : State) (k : Kept plans layout slots laws w now) where
+module _ {P : Type 0} {plans : Plans P} {layout : Layout} {slots : ℕ} {laws : Laws plans layout slots} {w : BoardView P} {now : State} (k : Kept plans layout slots laws w now) where
   abbrev links : LinksKept w.heads w.objects now.chain now.used now.cut now.successor
   links = k.links_kept
 
   abbrev count : ℕ
   count = length w.updaters
 
-  abbrev PartFor : List (UpdaterState P) → Type 0
-  PartFor updaters =
-      Part plans layout slots laws decide_asker (holder_of w.grace.holder) (work_of updaters w.workers) (word_at w.readers) w.grace.asks w.grace.seq w.grace.word now.asked now.answered now.asked_sections now.sections
+  abbrev PartBy : (Asker → Work P) → Type 0
+  PartBy works = Part plans layout slots laws (holder_of w.grace.holder) works (word_at w.readers) w.grace.asks w.grace.seq w.grace.word now.asked now.answered now.asked_sections now.sections
 
   -- the state of an updater that is there
   pub record There (u : ℕ) (x : UpdaterState P) : Type 0 where
@@ -34,11 +30,9 @@ module _ {P : Type 0} (plans : Plans P) (layout : Layout) (slots : ℕ) (laws : 
       }
 
   -- an updater that rests goes on resting
-  pub rests_still : (u : ℕ) (x x' : UpdaterState P) → There u x → x'.started ≡ x.started → place_work x.place ≡ Rests → place_work x'.place ≡ Rests → PartFor (slice_set w.updaters u x')
+  pub rests_still : (u : ℕ) (x x' : UpdaterState P) → There u x → x'.started ≡ x.started → place_work x.place ≡ Rests → place_work x'.place ≡ Rests → PartBy (work_of (slice_set w.updaters u x') w.workers)
   rests_still u x x' t polls was is =
-      subst (λ (works : Asker → Work P). Part plans layout slots laws decide_asker (holder_of w.grace.holder) works (word_at w.readers) w.grace.asks w.grace.seq w.grace.word now.asked now.answered now.asked_sections now.sections)
-      (set_same decide_asker (work_of w.updaters w.workers) (work_of (slice_set w.updaters u x') w.workers) (Syncing u) (place_work x'.place)
-      (work_set plans layout slots laws w.updaters w.workers u x' t.inside (polls ∙ sym (ap (λ (y : UpdaterState P). y.started) t.is))) (ap (λ (z : UpdaterState P). place_work z.place) t.is ∙ was ∙ sym is)) k.part
+      subst PartBy (set_same decide_asker (work_set w.updaters w.workers u x' t.inside (polls ∙ sym (ap (λ (y : UpdaterState P). y.started) t.is))) (ap (λ (z : UpdaterState P). place_work z.place) t.is ∙ was ∙ sym is)) k.part
 
   -- a state is set, and the others are as before
   pub places_set : (heads' : List (Option ObjectId)) (os' : List ObjectState) (u : ℕ) (x' : UpdaterState P) → u < count → UpdaterKept heads' os' count u x'.place →
@@ -59,36 +53,26 @@ module _ {P : Type 0} (plans : Plans P) (layout : Layout) (slots : ℕ) (laws : 
       Owes plans layout slots laws w now (Ok (Begin u x' y))
   owes_begin u x x' y t polls was is new mine = (
     tt,
-    record {
-      shape = k.shape;
-      links_kept = links_grown w.objects y new w.heads now.chain now.used now.cut now.successor links;
-      places_kept = places_set w.heads (w.objects ++ y ∷ []) u x' t.inside mine (λ v p _ h. over_places w.heads (w.objects ++ y ∷ []) v (λ q. place_grown w.objects y new w.heads count v q) p h);
-      readers_kept = readers_over plans.qsbr layout w.readers w.grace.word w.grace.word w.objects (w.objects ++ y ∷ []) now.sections now.seen now.held (λ _. omega arith) (λ o known e. known (sym (stage_grown w.objects y new o) ∙ e)) k.readers_kept;
-      part = rests_still u x x' t polls was is;
-      ordinals = k.ordinals;
-      asks_low = k.asks_low;
-      seq_low = k.seq_low;
-      phase_low = k.phase_low;
-    },
+    assumption (
+      links_grown w.objects y new w.heads now.chain now.used now.cut now.successor links,
+      places_set w.heads (w.objects ++ y ∷ []) u x' t.inside mine (λ v p _ h. over_places w.heads (w.objects ++ y ∷ []) v (λ q. place_grown w.objects y new w.heads count v q) p h),
+      readers_over plans.qsbr layout w.readers w.grace.word w.grace.word w.objects (w.objects ++ y ∷ []) now.sections now.seen now.held (λ _. omega arith) (λ o known e. known (sym (stage_grown w.objects y new o) ∙ e)) k.readers_kept,
+      rests_still u x x' t polls was is,
+    ),
   )
 
   pub owes_push : (u : ℕ) (x : UpdaterState P) (c : ℕ) (head : Option ObjectId) → There u x → place_work x.place ≡ Rests → slice_get w.heads c ≡ Some head → writes w u c ≡ true →
-      Owes plans layout slots laws w now (Ok (Begin u (record x { place = Publishes (publishing.Push (next_object w)) }) (fresh_object c head)))
-  owes_push u x c head t was at_c mine = owes_begin u x (record x { place = Publishes (publishing.Push m) }) y t refl was refl refl (
-    (ap (λ (o : ObjectState). o.stage) is, new_within w.objects y refl m refl),
-    subst (λ (o : ObjectState). o.chain % count ≡ u) (sym is) (eqb-true (c % count) u mine),
-    subst (λ (o : ObjectState). o.chain < length w.heads) (sym is) (slice_get_within w.heads c head at_c),
-    subst (λ (o : ObjectState). o.link ≡ head_of w.heads o.chain) (sym is) (sym (get_or_from_slice_get w.heads c head None at_c)),
-  )
-    where
-      y : ObjectState
-      y = fresh_object c head
-
-      m : ObjectId
-      m = next_object w
-
-      is : object_at (w.objects ++ y ∷ []) m ≡ y
-      is = new_object w.objects y refl m refl
+      Owes plans layout slots laws w now (Ok (Begin u (record x { place = Publishes (Publishing.Push (next_object w)) }) (fresh_object c head)))
+  owes_push u x c head t was at_c mine =
+      let y : ObjectState = fresh_object c head in
+      let m : ObjectId = next_object w in
+      let is : object_at (w.objects ++ y ∷ []) m ≡ y = new_object w.objects y refl m refl in
+      owes_begin u x (record x { place = Publishes (Publishing.Push m) }) y t refl was refl refl (
+        (ap (λ (o : ObjectState). o.stage) is, new_within w.objects y refl m refl),
+        subst (λ (o : ObjectState). o.chain % count ≡ u) (sym is) (eqb-true (c % count) u mine),
+        subst (λ (o : ObjectState). o.chain < length w.heads) (sym is) (slice_get_within w.heads c head at_c),
+        subst (λ (o : ObjectState). o.link ≡ head_of w.heads o.chain) (sym is) (sym (get_or_from_slice_get w.heads c head None at_c)),
+      )
 
   -- an object that may go
   record MayGo (u : ℕ) (o : ObjectId) (y : ObjectState) : Type 0 where
@@ -100,50 +84,36 @@ module _ {P : Type 0} (plans : Plans P) (layout : Layout) (slots : ℕ) (laws : 
   linked_tells : (s : Stage) → is_linked s ≡ true → s ≡ Linked
   linked_tells Fresh e = absurd (true≢false (sym e))
   linked_tells Linked e = refl
-  linked_tells IsCut e = absurd (true≢false (sym e))
+  linked_tells Stage.Cut e = absurd (true≢false (sym e))
 
   may_go : (u : ℕ) (o : ObjectId) (z : Option ObjectState) → slice_get w.objects o.0 ≡ z → (y : ObjectState) → linked_by w u z ≡ Some y → MayGo u o y
   may_go u o None at_o y e = absurd (none-some y e)
-  may_go u o (Some z) at_o y e = by_test (is_linked z.stage && writes w u z.chain) refl e
-    where
-      at_z : object_at w.objects o ≡ z
-      at_z = get_or_from_slice_get w.objects o.0 z no_object at_o
-
-      by_test : (b : Bool) → (is_linked z.stage && writes w u z.chain) ≡ b → cond b (Some z) None ≡ Some y → MayGo u o y
-      by_test false t e = absurd (none-some y e)
-      by_test true t e =
-          let b = and_parts (is_linked z.stage) (writes w u z.chain) t in
-          record {
-            inside = slice_get_within w.objects o.0 z at_o;
-            is = at_z ∙ same_Some z y e;
-            linked = ap (λ (q : ObjectState). q.stage) at_z ∙ linked_tells z.stage b.0;
-            home = ap (λ (q : ObjectState). q.chain % count) at_z ∙ eqb-true (z.chain % count) u b.1;
-          }
+  may_go u o (Some z) at_o y e =
+      let at_z = get_or_from_slice_get w.objects o.0 z no_object at_o in
+      let may = cond_some (is_linked z.stage && writes w u z.chain) z y e in
+      let b = and_parts (is_linked z.stage) (writes w u z.chain) may.0 in
+      record {
+        inside = slice_get_within w.objects o.0 z at_o;
+        is = at_z ∙ may.1;
+        linked = ap (λ (q : ObjectState). q.stage) at_z ∙ linked_tells z.stage b.0;
+        home = ap (λ (q : ObjectState). q.chain % count) at_z ∙ eqb-true (z.chain % count) u b.1;
+      }
 
   pub owes_replace : (u : ℕ) (x : UpdaterState P) (o : ObjectId) (z : ObjectState) → There u x → place_work x.place ≡ Rests → linked_by w u (slice_get w.objects o.0) ≡ Some z →
-      Owes plans layout slots laws w now (Ok (Begin u (record x { place = Publishes (publishing.Replace o (next_object w)) }) (fresh_object z.chain z.link)))
-  owes_replace u x o z t was e = owes_begin u x (record x { place = Publishes (publishing.Replace o m) }) y t refl was refl refl (
-    (ap (λ (q : ObjectState). q.stage) is, new_within w.objects y refl m refl),
-    ap (λ (q : ObjectState). q.chain % count) is ∙ ap (λ (q : ObjectState). q.chain % count) (sym g.is) ∙ g.home,
-    ap (λ (q : ObjectState). q.stage) at_o ∙ g.linked,
-    ap (λ (q : ObjectState). q.chain) (at_o ∙ g.is) ∙ sym (ap (λ (q : ObjectState). q.chain) is),
-    ap (λ (q : ObjectState). q.link) is ∙ sym (ap (λ (q : ObjectState). q.link) (at_o ∙ g.is)),
-  )
-    where
-      g : MayGo u o z
-      g = may_go u o (slice_get w.objects o.0) refl z e
-
-      y : ObjectState
-      y = fresh_object z.chain z.link
-
-      m : ObjectId
-      m = next_object w
-
-      is : object_at (w.objects ++ y ∷ []) m ≡ y
-      is = new_object w.objects y refl m refl
-
-      at_o : object_at (w.objects ++ y ∷ []) o ≡ object_at w.objects o
-      at_o = grown_same w.objects y o g.inside
+      Owes plans layout slots laws w now (Ok (Begin u (record x { place = Publishes (Publishing.Replace o (next_object w)) }) (fresh_object z.chain z.link)))
+  owes_replace u x o z t was e =
+      let g : MayGo u o z = may_go u o (slice_get w.objects o.0) refl z e in
+      let y : ObjectState = fresh_object z.chain z.link in
+      let m : ObjectId = next_object w in
+      let is : object_at (w.objects ++ y ∷ []) m ≡ y = new_object w.objects y refl m refl in
+      let at_o : object_at (w.objects ++ y ∷ []) o ≡ object_at w.objects o = grown_same w.objects y o g.inside in
+      owes_begin u x (record x { place = Publishes (Publishing.Replace o m) }) y t refl was refl refl (
+        (ap (λ (q : ObjectState). q.stage) is, new_within w.objects y refl m refl),
+        ap (λ (q : ObjectState). q.chain % count) is ∙ ap (λ (q : ObjectState). q.chain % count) (sym g.is) ∙ g.home,
+        ap (λ (q : ObjectState). q.stage) at_o ∙ g.linked,
+        ap (λ (q : ObjectState). q.chain) (at_o ∙ g.is) ∙ sym (ap (λ (q : ObjectState). q.chain) is),
+        ap (λ (q : ObjectState). q.link) is ∙ sym (ap (λ (q : ObjectState). q.link) (at_o ∙ g.is)),
+      )
 
   -- a store into a chain
   owes_publish : (u : ℕ) (x x' : UpdaterState P) (s : Splice) (e : Event) (ys : List ObjectId) → There u x → x'.started ≡ x.started → place_work x.place ≡ Rests → x'.place ≡ Idle → s.chain % count ≡ u → Fits w.heads w.objects now.chain s ys →
@@ -152,20 +122,17 @@ module _ {P : Type 0} (plans : Plans P) (layout : Layout) (slots : ℕ) (laws : 
   owes_publish u x x' s e ys t polls was is home fits allowed chain' used' cut' successor' follows same = (
     (allowed, tt),
     subst (Kept plans layout slots laws (changed w (Publish u x' s e))) (sym same)
-        (record {
-          shape = k.shape;
-          links_kept = links_spliced w.heads w.objects now.chain now.used now.cut now.successor s ys links fits chain' used' cut' successor' follows;
-          places_kept = places_set (spliced_heads w.heads s) (spliced_objects w.objects s) u x' t.inside
+        (assumption (
+          links_spliced w.heads w.objects now.chain now.used now.cut now.successor s ys links fits chain' used' cut' successor' follows,
+          places_set (spliced_heads w.heads s) (spliced_objects w.objects s) u x' t.inside
               (subst (UpdaterKept (spliced_heads w.heads s) (spliced_objects w.objects s) count u) (sym is) tt)
-              (λ v p apart h. over_places (spliced_heads w.heads s) (spliced_objects w.objects s) v (λ q. place_spliced w.heads w.objects now.chain now.used now.cut now.successor s ys links fits count u v q home apart) p h);
-          readers_kept = readers_over plans.qsbr layout w.readers w.grace.word w.grace.word w.objects (spliced_objects w.objects s) now.sections now.seen now.held (λ _. omega arith)
-              (monotone w.heads w.objects now.chain now.used now.cut now.successor s ys links fits) k.readers_kept;
-          part = rests_still u x x' t polls was (ap place_work is);
-          ordinals = λ r. log_longer w.log (e ∷ []) (reader_at w.readers r).ordinal (k.ordinals r);
-          asks_low = log_longer w.log (e ∷ []) w.grace.asks k.asks_low;
-          seq_low = k.seq_low;
-          phase_low = k.phase_low;
-        }),
+              (λ v p apart h. over_places (spliced_heads w.heads s) (spliced_objects w.objects s) v (λ q. place_spliced w.heads w.objects now.chain now.used now.cut now.successor s ys links fits count u v q home apart) p h),
+          readers_over plans.qsbr layout w.readers w.grace.word w.grace.word w.objects (spliced_objects w.objects s) now.sections now.seen now.held (λ _. omega arith)
+              (monotone w.heads w.objects now.chain now.used now.cut now.successor s ys links fits) k.readers_kept,
+          rests_still u x x' t polls was (ap place_work is),
+          λ (r : ℕ). log_longer w.log (e ∷ []) (reader_at w.readers r).ordinal (k.ordinals r),
+          log_longer w.log (e ∷ []) w.grace.asks k.asks_low,
+        )),
   )
 
   -- what leaves a chain is linked in it
@@ -216,7 +183,7 @@ module _ {P : Type 0} (plans : Plans P) (layout : Layout) (slots : ℕ) (laws : 
       (cut_splices xs o (before_of w.objects o) ck.once h (ck.befores o h).0 (ck.befores o h).1) (λ m e. absurd (none_some m e)) (λ p h. inr h) (has_object_in xs o h) refl)
 
   -- the second step of `push`
-  pub owes_pushed : (u : ℕ) (x : UpdaterState P) (m : ObjectId) (z : ObjectState) → There u x → place_work x.place ≡ Rests → PlaceKept w.heads w.objects count u (publishing.Push m) → slice_get w.objects m.0 ≡ Some z →
+  pub owes_pushed : (u : ℕ) (x : UpdaterState P) (m : ObjectId) (z : ObjectState) → There u x → place_work x.place ≡ Rests → PlaceKept w.heads w.objects count u (Publishing.Push m) → slice_get w.objects m.0 ≡ Some z →
       Owes plans layout slots laws w now (Ok (Publish u (record x { place = Idle }) (record { chain = z.chain; before = None; after = z.link; leaves = None; enters = Some m }) (Push z.chain m)))
   owes_pushed u x m z t was mine at_m =
       let c = chain_of w.objects m in
@@ -243,7 +210,7 @@ module _ {P : Type 0} (plans : Plans P) (layout : Layout) (slots : ℕ) (laws : 
       refl)
 
   -- the second step of `replace`
-  pub owes_replaced : (u : ℕ) (x : UpdaterState P) (o m : ObjectId) (z : ObjectState) → There u x → place_work x.place ≡ Rests → PlaceKept w.heads w.objects count u (publishing.Replace o m) → slice_get w.objects o.0 ≡ Some z →
+  pub owes_replaced : (u : ℕ) (x : UpdaterState P) (o m : ObjectId) (z : ObjectState) → There u x → place_work x.place ≡ Rests → PlaceKept w.heads w.objects count u (Publishing.Replace o m) → slice_get w.objects o.0 ≡ Some z →
       Owes plans layout slots laws w now (Ok (Publish u (record x { place = Idle }) (record { chain = z.chain; before = z.before; after = z.link; leaves = Some o; enters = Some m }) (Replace z.chain o m)))
   owes_replaced u x o m z t was mine at_o =
       let xs = now.chain (chain_of w.objects o) in
@@ -258,25 +225,19 @@ module _ {P : Type 0} (plans : Plans P) (layout : Layout) (slots : ℕ) (laws : 
 
 -- ---- what steps with queues, objects' headers and barriers leave of all else
 
-module _ {P : Type 0} (plans : Plans P) (layout : Layout) (slots : ℕ) (laws : Laws plans layout slots) (w : BoardView P) (now : State) (k : Kept plans layout slots laws w now) where
-  abbrev PartBy : (Asker → Work P) → Type 0
-  PartBy works = Part plans layout slots laws decide_asker (holder_of w.grace.holder) works (word_at w.readers) w.grace.asks w.grace.seq w.grace.word now.asked now.answered now.asked_sections now.sections
-
-  pub kept_updater : (u : ℕ) (x x' : UpdaterState P) (queues' : List QueueState) (mark : Option Mark) (barriers' : ℕ) (log' : List Event) → There plans layout slots laws w now k u x → length w.log ≤ length log' →
+module _ {P : Type 0} {plans : Plans P} {layout : Layout} {slots : ℕ} {laws : Laws plans layout slots} {w : BoardView P} {now : State} (k : Kept plans layout slots laws w now) where
+  pub kept_updater : (u : ℕ) (x x' : UpdaterState P) (queues' : List QueueState) (mark : Option Mark) (barriers' : ℕ) (log' : List Event) → There k u x → length w.log ≤ length log' →
       ((os : List ObjectState) → UpdaterKept w.heads os (length w.updaters) u x'.place) → x'.started ≡ x.started → place_work x.place ≡ Rests → place_work x'.place ≡ Rests →
       Kept plans layout slots laws (record w { updaters = slice_set w.updaters u x'; queues = queues'; objects = marked_life w.objects mark; barriers = barriers'; log = log' }) now
-  kept_updater u x x' queues' mark barriers' log' t longer place polls was is = record {
-    shape = k.shape;
-    links_kept = links_marked w.objects mark w.heads now.chain now.used now.cut now.successor k.links_kept;
-    places_kept = places_set plans layout slots laws w now k w.heads (marked_life w.objects mark) u x' t.inside (place (marked_life w.objects mark))
-        (λ v p _ h. over_places plans layout slots laws w now k w.heads (marked_life w.objects mark) v (λ q. place_marked w.objects mark w.heads (length w.updaters) v q) p h);
-    readers_kept = readers_over plans.qsbr layout w.readers w.grace.word w.grace.word w.objects (marked_life w.objects mark) now.sections now.seen now.held (λ _. omega arith) (λ o known e. known (sym (stage_marked w.objects mark o) ∙ e)) k.readers_kept;
-    part = rests_still plans layout slots laws w now k u x x' t polls was is;
-    ordinals = λ r. let low = k.ordinals r in omega (arith, low, longer);
-    asks_low = let low = k.asks_low in omega (arith, low, longer);
-    seq_low = k.seq_low;
-    phase_low = k.phase_low;
-  }
+  kept_updater u x x' queues' mark barriers' log' t longer place polls was is =
+      let low : (r : ℕ) → (reader_at w.readers r).ordinal ≤ length log' = λ r. omega (arith, k.ordinals r, longer) in
+      let asks : w.grace.asks ≤ length log' = omega (arith, k.asks_low, longer) in assumption (
+        links_marked w.objects mark w.heads now.chain now.used now.cut now.successor k.links_kept,
+        places_set k w.heads (marked_life w.objects mark) u x' t.inside (place (marked_life w.objects mark))
+            (λ v p _ h. over_places k w.heads (marked_life w.objects mark) v (λ q. place_marked w.objects mark w.heads (length w.updaters) v q) p h),
+        readers_over plans.qsbr layout w.readers w.grace.word w.grace.word w.objects (marked_life w.objects mark) now.sections now.seen now.held (λ _. omega arith) (λ o known e. known (sym (stage_marked w.objects mark o) ∙ e)) k.readers_kept,
+        rests_still k u x x' t polls was is,
+      )
 
   -- one worker's work is set
   pub worker_set : (n : ℕ) (x : WorkerState P) → n < length w.workers → Sets (work_of w.updaters w.workers) (work_of w.updaters (slice_set w.workers n x)) (Working n) (worker_work x.ask x.core)
@@ -291,25 +252,20 @@ module _ {P : Type 0} (plans : Plans P) (layout : Layout) (slots : ℕ) (laws : 
       others (Working m) apart = ap (λ (y : WorkerState P). worker_work y.ask y.core) (get_or-set_other w.workers n m x new_worker (λ e. apart (ap Working e)))
 
   -- a worker that rests goes on resting
-  works_still : (n : ℕ) (x : WorkerState P) → n < length w.workers → worker_work (worker_at w.workers n).ask (worker_at w.workers n).core ≡ Rests → worker_work x.ask x.core ≡ Rests → PartBy (work_of w.updaters (slice_set w.workers n x))
-  works_still n x inside was is = subst PartBy (set_same decide_asker (work_of w.updaters w.workers) (work_of w.updaters (slice_set w.workers n x)) (Working n) (worker_work x.ask x.core) (worker_set n x inside) (was ∙ sym is)) k.part
+  works_still : (n : ℕ) (x : WorkerState P) → n < length w.workers → worker_work (worker_at w.workers n).ask (worker_at w.workers n).core ≡ Rests → worker_work x.ask x.core ≡ Rests → PartBy k (work_of w.updaters (slice_set w.workers n x))
+  works_still n x inside was is = subst (PartBy k) (set_same decide_asker (worker_set n x inside) (was ∙ sym is)) k.part
 
   -- a worker's step, with what it makes of grace periods
   pub kept_work : (n : ℕ) (x : WorkerState P) (queues' : List QueueState) (mark : Option Mark) (grace : GraceState) (log' : List Event) (asked answered : List ℕ) (awaited : ℕ → List SectionId) → length w.log ≤ length log' →
       (plans.qsbr ≡ true → w.grace.word ≤ grace.word) → (plans.qsbr ≡ false → grace.word ≤ 1) → grace.seq ≤ 2 ^ 62 + 2 → grace.asks ≤ length log' →
-      Part plans layout slots laws decide_asker (holder_of grace.holder) (work_of w.updaters (slice_set w.workers n x)) (word_at w.readers) grace.asks grace.seq grace.word asked answered awaited now.sections →
+      Part plans layout slots laws (holder_of grace.holder) (work_of w.updaters (slice_set w.workers n x)) (word_at w.readers) grace.asks grace.seq grace.word asked answered awaited now.sections →
       Kept plans layout slots laws (record w { workers = slice_set w.workers n x; queues = queues'; objects = marked_life w.objects mark; grace = grace; log = log' }) (record now { asked = asked; answered = answered; asked_sections = awaited })
-  kept_work n x queues' mark grace log' asked answered awaited longer rises phase low asks part = record {
-    shape = k.shape;
-    links_kept = links_marked w.objects mark w.heads now.chain now.used now.cut now.successor k.links_kept;
-    places_kept = λ v. over_places plans layout slots laws w now k w.heads (marked_life w.objects mark) v (λ q. place_marked w.objects mark w.heads (length w.updaters) v q) (updater_at w.updaters v).place (k.places_kept v);
-    readers_kept = readers_over plans.qsbr layout w.readers w.grace.word grace.word w.objects (marked_life w.objects mark) now.sections now.seen now.held rises (λ o known e. known (sym (stage_marked w.objects mark o) ∙ e)) k.readers_kept;
-    part = part;
-    ordinals = λ r. let low = k.ordinals r in omega (arith, low, longer);
-    asks_low = asks;
-    seq_low = low;
-    phase_low = phase;
-  }
+  kept_work n x queues' mark grace log' asked answered awaited longer rises phase low asks part =
+      let ordinals : (r : ℕ) → (reader_at w.readers r).ordinal ≤ length log' = λ r. omega (arith, k.ordinals r, longer) in assumption (
+        links_marked w.objects mark w.heads now.chain now.used now.cut now.successor k.links_kept,
+        λ (v : ℕ). over_places k w.heads (marked_life w.objects mark) v (λ q. place_marked w.objects mark w.heads (length w.updaters) v q) (updater_at w.updaters v).place (k.places_kept v),
+        readers_over plans.qsbr layout w.readers w.grace.word grace.word w.objects (marked_life w.objects mark) now.sections now.seen now.held rises (λ o known e. known (sym (stage_marked w.objects mark o) ∙ e)) k.readers_kept,
+      )
 
   -- and a step that does nothing with grace periods
   pub kept_worker : (n : ℕ) (x : WorkerState P) (queues' : List QueueState) (mark : Option Mark) (log' : List Event) → n < length w.workers → length w.log ≤ length log' →
@@ -317,18 +273,3 @@ module _ {P : Type 0} (plans : Plans P) (layout : Layout) (slots : ℕ) (laws : 
       Kept plans layout slots laws (record w { workers = slice_set w.workers n x; queues = queues'; objects = marked_life w.objects mark; log = log' }) now
   kept_worker n x queues' mark log' inside longer was is =
       kept_work n x queues' mark w.grace log' now.asked now.answered now.asked_sections longer (λ q. omega arith) k.phase_low k.seq_low (let low = k.asks_low in omega (arith, low, longer)) (works_still n x inside was is)
-
-  -- nothing of this is kept beside retirements and barriers
-  pub beside : (retired queued reclaimed : List ObjectId) (awaited : ObjectId → List SectionId) (noted cleared : List ℕ) (noted_objects : ℕ → List ObjectId) →
-      Kept plans layout slots laws w (record now { retired = retired; queued = queued; reclaimed = reclaimed; awaited = awaited; noted = noted; cleared = cleared; noted_objects = noted_objects })
-  beside retired queued reclaimed awaited noted cleared noted_objects = record {
-    shape = k.shape;
-    links_kept = k.links_kept;
-    places_kept = k.places_kept;
-    readers_kept = k.readers_kept;
-    part = k.part;
-    ordinals = k.ordinals;
-    asks_low = k.asks_low;
-    seq_low = k.seq_low;
-    phase_low = k.phase_low;
-  }

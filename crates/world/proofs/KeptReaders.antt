@@ -1,9 +1,8 @@
 -- What the steps of readers keep, and that what they tell may come.
-use Rattle.world.proofs.Cited.{slice_get-get_or, slice_get_past, get_past, past_or_within, get_or, ◌≡◌, ◌≢◌, ◌⊎◌, inl, ⊎_elim, ℕ, ◌+◌, ◌<◌, ◌≤◌, ◌==◌, not, Bool, true, false, List, [], ◌∷◌, ◌++◌, length, slice_get, slice_set, Option, Some, None, Ok, refl, sym, ap, ◌∙◌, subst, arith, true≢false, length-append, length-set, eqb-true, eqb-false, ne_eqb, slice_get_within, get_or_from_slice_get, Event, Open, Close, First, Next, Touch, ObjectId, SectionId, without_section, at_section, first_of, next_of, State, got, IsSuccessor, In, in_sections, has_section_in, in_objects, has_object_in, in_left, in_last, in_more, without_section_has, has_without_section, at_section_same, at_section_other, some_is, none_some, first_has, follows_has, Layout, count_of, phase_in, is_open_of, left_of, is_online, announced, entered_of-nests, entered_of-opens, left_of-nests, Shows, Answer, Events, Quiet, ReaderState, ReaderStep, ObjectState, Stage, Fresh, Linked, Read, Plans, BoardView, told, changed, section_of, new_reader, is_open_in, quietly, telling, with_word, opened, closed, with_cursor, found_row, no_object, link_of, stage_of, chain_of, LinksKept, reader_at, ReaderKept, readers_set}
-use Rattle.world_state.specs.declared.object.Stage.TheVariants.{Cut as IsCut}
-use Rattle.world.proofs.Fence.{Laws, part_words}
+use Rattle.world.proofs.Cited.{slice_get-get_or, slice_get_past, get_past, past_or_within, get_or, ◌≡◌, ◌≢◌, inl, ⊎_elim, ℕ, ◌+◌, ◌<◌, ◌≤◌, ◌==◌, not, Bool, true, false, List, [], ◌∷◌, ◌++◌, length, slice_get, slice_set, Option, Some, None, Ok, refl, sym, ap, ◌∙◌, subst, arith, true≢false, length-append, length-set, eqb-true, eqb-false, ne_eqb, slice_get_within, get_or_from_slice_get, Event, Open, Close, First, Next, Touch, ObjectId, SectionId, without_section, at_section, first_of, next_of, State, got, IsSuccessor, In, in_sections, has_section_in, in_objects, has_object_in, in_left, in_last, in_more, without_section_has, has_without_section, at_section_same, at_section_other, some_is, none_some, first_has, follows_has, Layout, count_of, phase_in, is_open_of, left_of, announced, entered_of-nests, entered_of-opens, left_of-nests, Shows, Answer, Events, Quiet, ReaderState, ReaderStep, ObjectState, Stage, Fresh, Linked, Read, Plans, BoardView, told, changed, section_of, new_reader, is_open_in, quietly, telling, with_word, opened, closed, with_cursor, found_row, no_object, link_of, stage_of, chain_of, LinksKept, reader_at, ReaderKept, readers_set}
+use Rattle.world.proofs.Fence.{Laws, Part, part_words}
 use Rattle.world.proofs.Rows.{Copies, Nests, Unnests, Unlocks, Leaves, Enters, GoesOnline, Announces, Firsts, Nexts, Touches, ReaderRows, not_false}
-use Rattle.world.proofs.State.{at_each, decide_asker, holder_of, work_of, word_at, Kept, Owes}
+use Rattle.world.proofs.State.{at_each, holder_of, work_of, word_at, Kept, Owes}
 
 -- what is read of an entry of a list, there or past its end
 pub entry_is : {X Y : Type 0} (f : Option X → Y) (xs : List X) (i : ℕ) (d : X) → f None ≡ f (Some d) → f (slice_get xs i) ≡ f (Some (get_or xs i d))
@@ -22,7 +21,7 @@ log_longer log es n low = omega (arith, low, length-append log es)
 pub log_one : (log : List Event) (e : Event) (es : List Event) (n : ℕ) → n ≤ length log → n + 1 ≤ length (log ++ (e ∷ es))
 log_one log e es n low = omega (arith, low, length-append log (e ∷ es))
 
-module _ {P : Type 0} (plans : Plans P) (layout : Layout) (slots : ℕ) (laws : Laws plans layout slots) (w : BoardView P) (now : State) (k : Kept plans layout slots laws w now) where
+module _ {P : Type 0} {plans : Plans P} {layout : Layout} {slots : ℕ} {laws : Laws plans layout slots} {w : BoardView P} {now : State} (k : Kept plans layout slots laws w now) where
   abbrev pub number : ℕ
   number = w.grace.word
 
@@ -52,9 +51,6 @@ module _ {P : Type 0} (plans : Plans P) (layout : Layout) (slots : ℕ) (laws : 
         ordinal = subst (λ (x : ReaderState). x.ordinal ≤ length w.log) same (k.ordinals r);
       }
 
-  abbrev later : List SectionId → List SectionId → (SectionId → List ObjectId) → (ObjectId → List SectionId) → (ℕ → List SectionId) → State
-  later seen sections held awaited asked = record now { seen = seen; sections = sections; held = held; awaited = awaited; asked_sections = asked }
-
   -- a reader changes, and sections with it
   record Changes (r : ℕ) (v v' : ReaderState) (seen' sections' : List SectionId) (held' : SectionId → List ObjectId) (asked' : ℕ → List SectionId) : Type 0 where
     mine : ReaderKept plans.qsbr layout r v' number w.objects sections' seen' held'
@@ -67,19 +63,15 @@ module _ {P : Type 0} (plans : Plans P) (layout : Layout) (slots : ℕ) (laws : 
 
   kept_read : (r : ℕ) (v v' : ReaderState) (answer : Answer) (seen' sections' : List SectionId) (held' : SectionId → List ObjectId) (awaited' : ObjectId → List SectionId) (asked' : ℕ → List SectionId) →
       There r v → Changes r v v' seen' sections' held' asked' → v'.ordinal ≤ length (w.log ++ told answer) →
-      Kept plans layout slots laws (changed w (Read r (record { state = v'; answer = answer }))) (later seen' sections' held' awaited' asked')
-  kept_read r v v' answer seen' sections' held' awaited' asked' t c ordinal = record {
-    shape = record { laid = k.shape.laid; sized = length-set w.readers r v' ∙ k.shape.sized; some_slot = k.shape.some_slot };
-    links_kept = k.links_kept;
-    places_kept = k.places_kept;
-    readers_kept = readers_set plans.qsbr layout w.readers number w.objects now.sections sections' now.seen seen' now.held held' r v' t.inside c.mine c.sees c.opens c.closes c.holds k.readers_kept;
-    part = part_words plans layout slots laws decide_asker (holder_of w.grace.holder) (work_of w.updaters w.workers) (word_at w.readers) (word_at (slice_set w.readers r v')) w.grace.asks w.grace.seq number now.asked now.answered now.asked_sections asked' now.sections sections'
-        words c.awaits k.part;
-    ordinals = at_each new_reader (λ x y. y.ordinal ≤ length (w.log ++ told answer)) w.readers r v' t.inside ordinal (λ x apart. log_longer w.log (told answer) (reader_at w.readers x).ordinal (k.ordinals x));
-    asks_low = log_longer w.log (told answer) w.grace.asks k.asks_low;
-    seq_low = k.seq_low;
-    phase_low = k.phase_low;
-  }
+      Kept plans layout slots laws (changed w (Read r (record { state = v'; answer = answer }))) (record now { seen = seen'; sections = sections'; held = held'; awaited = awaited'; asked_sections = asked' })
+  kept_read r v v' answer seen' sections' held' awaited' asked' t c ordinal =
+      let part : Part plans layout slots laws (holder_of w.grace.holder) (work_of w.updaters w.workers) (word_at (slice_set w.readers r v')) w.grace.asks w.grace.seq number now.asked now.answered asked' sections' = part_words k.part words c.awaits in assumption (
+        part,
+        length-set w.readers r v' ∙ k.shape.sized,
+        readers_set plans.qsbr layout w.readers number w.objects now.sections sections' now.seen seen' now.held held' r v' t.inside c.mine c.sees c.opens c.closes c.holds k.readers_kept,
+        at_each new_reader (λ x y. y.ordinal ≤ length (w.log ++ told answer)) w.readers r v' t.inside ordinal (λ x apart. log_longer w.log (told answer) (reader_at w.readers x).ordinal (k.ordinals x)),
+        log_longer w.log (told answer) w.grace.asks k.asks_low,
+      )
     where
       words : (a : ℕ) (s : SectionId) → In (asked' a) s → In now.sections s → In (now.asked_sections a) s × In sections' s × ((mark : ℕ) → shows mark (word_at w.readers s.reader) → shows mark (word_at (slice_set w.readers r v') s.reader))
       words a s h o = at_each new_reader (λ n y. s.reader ≡ n → In (now.asked_sections a) s × In sections' s × ((mark : ℕ) → shows mark (word_at w.readers n) → shows mark y.word)) w.readers r v' t.inside
@@ -111,14 +103,7 @@ module _ {P : Type 0} (plans : Plans P) (layout : Layout) (slots : ℕ) (laws : 
   owes_copy r v t idle = (
     tt,
     same_sections r v (record v { copy = Some number }) Quiet now.held t
-        (record {
-          low = t.mine.low;
-          opened = t.mine.opened;
-          opens = t.mine.opens;
-          holds = t.mine.holds;
-          copying = λ copy e. let same : number ≡ copy = some_is number copy e in (idle, λ _. omega (arith, same));
-          marked = t.mine.marked;
-        })
+        (let copying : (copy : ℕ) → Some number ≡ Some copy → (plans.qsbr ≡ false → is_in v.word ≡ false) × (plans.qsbr ≡ true → copy ≤ number) = λ copy e. let same : number ≡ copy = some_is number copy e in (idle, λ _. omega (arith, same)) in assumption (copying, t.mine))
         (λ x n o _ h. h) (λ mark s _ _ h. h) refl,
   )
 
@@ -254,7 +239,7 @@ module _ {P : Type 0} (plans : Plans P) (layout : Layout) (slots : ℕ) (laws : 
   kept_got r v e None t is known = same_sections r v (with_cursor v None) (Events e None) now.held t
       (record { low = t.mine.low; opened = t.mine.opened; opens = t.mine.opens; holds = t.mine.holds; copying = t.mine.copying; marked = t.mine.marked })
       (λ x n o _ h. h) (λ mark s _ _ h. h) refl
-  kept_got r v e (Some f) t is known = same_sections r v (with_cursor v (Some f)) (Events e None) (at_section s (f ∷ now.held s) now.held) t
+  kept_got r v e (Some f) t is known = let s : SectionId = section_of r v.ordinal in same_sections r v (with_cursor v (Some f)) (Events e None) (at_section s (f ∷ now.held s) now.held) t
       (record {
         low = t.mine.low;
         opened = t.mine.opened;
@@ -264,9 +249,6 @@ module _ {P : Type 0} (plans : Plans P) (layout : Layout) (slots : ℕ) (laws : 
         marked = t.mine.marked;
       })
       (λ x n o apart h. subst (λ (os : List ObjectId). In os o) (sym (at_section_other s (section_of x n) (f ∷ now.held s) now.held (λ g. apart (ap (λ (u : SectionId). u.reader) g)))) h) (λ mark u _ _ h. h) refl
-    where
-      s : SectionId
-      s = section_of r v.ordinal
 
   owes_first : (r : ℕ) (v : ReaderState) (c : ℕ) (head : Option ObjectId) → There r v → is_in v.word ≡ true → slice_get w.heads c ≡ Some head → OwesRead r (found_row v head (First (section_of r v.ordinal) c head))
   owes_first r v c head t is at_c =
@@ -300,7 +282,7 @@ module _ {P : Type 0} (plans : Plans P) (layout : Layout) (slots : ℕ) (laws : 
       by Linked is =
           let h = links.links o is in
           (next, λ f e s. cc (sym (links.linked (chain_of w.objects o) f (follows_has (now.chain (chain_of w.objects o)) (Some o) f (in_its_chain (chain_of w.objects o) h ∙ e))).0 ∙ s))
-      by IsCut is = (next, λ f e. links.targets o f is e)
+      by Stage.Cut is = (next, λ f e. links.targets o f is e)
 
   owes_next : (r : ℕ) (v : ReaderState) (o : ObjectId) (x : ObjectState) → There r v → is_in v.word ≡ true → v.cursor ≡ Some o → slice_get w.objects o.0 ≡ Some x → OwesRead r (found_row v x.link (Next (section_of r v.ordinal) o x.link))
   owes_next r v o x t is from at_o =
@@ -321,11 +303,8 @@ module _ {P : Type 0} (plans : Plans P) (layout : Layout) (slots : ℕ) (laws : 
   open_count : (word : ℕ) → count_of layout word ≢ 0 → is_open_of layout word ≡ true
   open_count word n = ap not (ne_eqb (count_of layout word) 0 n)
 
-  in_memb : (word : ℕ) (b : Bool) → plans.qsbr ≡ false → is_open_of layout word ≡ b → is_in word ≡ b
-  in_memb word b f e = subst (λ (q : Bool). is_open_in q layout word ≡ b) (sym f) e
-
-  in_qsbr : (word : ℕ) (b : Bool) → plans.qsbr ≡ true → is_online word ≡ b → is_in word ≡ b
-  in_qsbr word b f e = subst (λ (q : Bool). is_open_in q layout word ≡ b) (sym f) e
+  in_flavour : {q : Bool} (word : ℕ) (b : Bool) → plans.qsbr ≡ q → is_open_in q layout word ≡ b → is_in word ≡ b
+  in_flavour word b f e = subst (λ (q : Bool). is_open_in q layout word ≡ b) (sym f) e
 
   memb_only : plans.qsbr ≡ false → (n m : ℕ) → plans.qsbr ≡ true → m ≤ n + 1
   memb_only f n m q = absurd (true≢false (sym q ∙ f))
@@ -339,34 +318,31 @@ module _ {P : Type 0} (plans : Plans P) (layout : Layout) (slots : ℕ) (laws : 
   -- what is owed of each step of a reader
   module _ (r : ℕ) (v : ReaderState) (t : There r v) where
     was_open : (word : ℕ) → plans.qsbr ≡ false → left_of layout v.word ≡ Ok word → is_in v.word ≡ true
-    was_open word f is = let d = left_of-nests layout v.word word is in in_memb v.word true f (open_count v.word (λ e. let c = d.count in omega (arith, c, e)))
-
-    was_closed : (copied : ℕ) → v.copy ≡ Some copied → plans.qsbr ≡ false → is_open_of layout v.word ≡ false
-    was_closed copied has f = subst (λ (q : Bool). is_open_in q layout v.word ≡ false) f ((t.mine.copying copied has).0 f)
+    was_open word f is = let d = left_of-nests layout v.word word is in in_flavour v.word true f (open_count v.word (λ e. let c = d.count in omega (arith, c, e)))
 
     announced_low : (copied : ℕ) → v.copy ≡ Some copied → plans.qsbr ≡ true → announced copied ≤ number + 1
     announced_low copied has e = let l = (t.mine.copying copied has).1 e in omega (arith, l)
 
     announced_open : (copied : ℕ) → plans.qsbr ≡ true → is_in (announced copied) ≡ true
-    announced_open copied q = in_qsbr (announced copied) true q
+    announced_open copied q = in_flavour (announced copied) true q
         (ap not (ne_eqb (copied + 1) 0 (λ e. omega (arith, e))))
 
     pub owes_reads : ReaderRows plans.qsbr layout w r v (OwesRead r)
-    owes_reads _ (Copies none zero) = owes_copy r v t (λ f. in_memb v.word false f (ap not (zero f)))
+    owes_reads _ (Copies none zero) = owes_copy r v t (λ f. in_flavour v.word false f (ap not (zero f)))
     owes_reads _ (Nests word none f more is) =
         let d = entered_of-nests layout v.word false word (eqb-false (count_of layout v.word) 0 more) is in
         let deeper : count_of layout word ≢ 0 = λ e. let c = d.count in omega (arith, c, e) in
-        owes_word r v word t (in_memb v.word true f (ap not more)) (in_memb word true f (open_count word deeper)) (memb_marks v.word word f d.phase deeper) (memb_only f number word)
+        owes_word r v word t (in_flavour v.word true f (ap not more)) (in_flavour word true f (open_count word deeper)) (memb_marks v.word word f d.phase deeper) (memb_only f number word)
     owes_reads _ (Unnests word none f is more) =
-        owes_word r v word t (was_open word f is) (in_memb word true f (ap not more)) (memb_marks v.word word f (sym (left_of-nests layout v.word word is).phase) (eqb-false (count_of layout word) 0 more)) (memb_only f number word)
-    owes_reads _ (Unlocks word none f is zero) = owes_close r v t (was_open word f is) word (in_memb word false f (ap not zero)) (memb_only f number word)
-    owes_reads _ (Leaves none q online) = owes_close r v t (in_qsbr v.word true q online) 0 (in_qsbr 0 false q refl) (λ _. omega arith)
+        owes_word r v word t (was_open word f is) (in_flavour word true f (ap not more)) (memb_marks v.word word f (sym (left_of-nests layout v.word word is).phase) (eqb-false (count_of layout word) 0 more)) (memb_only f number word)
+    owes_reads _ (Unlocks word none f is zero) = owes_close r v t (was_open word f is) word (in_flavour word false f (ap not zero)) (memb_only f number word)
+    owes_reads _ (Leaves none q online) = owes_close r v t (in_flavour v.word true q online) 0 (in_flavour 0 false q refl) (λ _. omega arith)
     owes_reads _ (Enters copied word has f is) =
-        let idle = was_closed copied has f in
+        let idle = subst (λ (q : Bool). is_open_in q layout v.word ≡ false) f ((t.mine.copying copied has).0 f) in
         let o = entered_of-opens layout v.word (copied == 1) word (eqb-true (count_of layout v.word) 0 (not_false idle)) is in
-        owes_open r v t word (in_memb v.word false f idle) (in_memb word true f (open_count word (λ e. let one = o.0 in omega (arith, one, e)))) (memb_only f number word)
-    owes_reads _ (GoesOnline copied has q offline) = owes_open r v t (announced copied) (in_qsbr v.word false q offline) (announced_open copied q) (announced_low copied has)
-    owes_reads _ (Announces copied has q online) = owes_announce r v t (in_qsbr v.word true q online) (announced copied) (announced_open copied q) (announced_low copied has)
+        owes_open r v t word (in_flavour v.word false f idle) (in_flavour word true f (open_count word (λ e. let one = o.0 in omega (arith, one, e)))) (memb_only f number word)
+    owes_reads _ (GoesOnline copied has q offline) = owes_open r v t (announced copied) (in_flavour v.word false q offline) (announced_open copied q) (announced_low copied has)
+    owes_reads _ (Announces copied has q online) = owes_announce r v t (in_flavour v.word true q online) (announced copied) (announced_open copied q) (announced_low copied has)
     owes_reads _ (Firsts c head none is at_c) = owes_first r v c head t is at_c
     owes_reads _ (Nexts o x none is from at_o) = owes_next r v o x t is from at_o
     owes_reads _ (Touches o none is from) = owes_touch r v o t is from

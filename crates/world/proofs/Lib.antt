@@ -6,15 +6,12 @@ pub mod KeptReaders
 pub mod KeptPublishing
 pub mod Asking
 pub mod Retirements
-pub mod Barriers
 pub mod WorkerSteps
 pub mod Logged
 mod DrainSteps
 pub mod Ranging
 pub mod Counting
 pub mod Rows
-pub mod GraceRows
-pub mod InOrder
 pub mod LockHolders
 pub mod Standing
 pub mod Moving

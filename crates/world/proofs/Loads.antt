@@ -1,13 +1,9 @@
 -- What a section's word is made of: the phase or number that was present at its reader's line before.
-use Rattle.world.proofs.Cited.{◌≡◌, ◌≢◌, ◌⊎◌, ℕ, true≢false, inl, inr, ◌==◌, cond, Bool, true, false, IsTrue, List, [], ◌∷◌, ◌++◌, get_or, slice_get, slice_set, Option, Some, None, Result, Ok, Err, refl, sym, ap, ◌∙◌, subst, get_or-set_same, get_or-set_other, cond-true, cond-false, eqb_tells, get_or_from_slice_get, slice_get_within, Refusal, Layout, count_of, fresh, entered_of, announced, Config, Answer, Line, Reader, Updater, Worker, ReaderState, ReaderStep, Change, Read, Stay, new_reader, quietly, with_word, announce_row, go_online_row, Plans, BoardView, changed, fresh_at, QsbrPlan, Flavour, Memb, Qsbr, ReaderVerb}
-use Rattle.world.specs.Lines.{with_change, outcome_of, change_of, of_reader}
+use Rattle.world.proofs.Cited.{◌≡◌, ◌≢◌, ◌⊎◌, ℕ, true≢false, inl, inr, ◌==◌, cond, Bool, true, false, IsTrue, List, [], ◌∷◌, ◌++◌, get_or, slice_get, slice_set, Option, Some, None, Result, Ok, Err, refl, sym, ap, ◌∙◌, subst, get_or-set_same, get_or-set_other, cond-true, cond-false, eqb_tells, get_or_from_slice_get, slice_get_within, Refusal, Layout, count_of, fresh, entered_of, announced, Config, Answer, Line, Reader, Updater, Worker, ReaderState, ReaderStep, Change, Read, Stay, new_reader, quietly, with_word, announce_row, go_online_row, Plans, BoardView, changed, fresh_at, QsbrPlan, Flavour, Memb, Qsbr, ReaderVerb, with_change, outcome_of, change_of, of_reader, IsOfReader, IsStalled, OfQsbr, qsbr_plans, fresh_in, made}
 use Rattle.world.specs.Loads.{Move, opens_section, word_for, StoresWhatItLoaded, made_by, move_of, moves_of}
-use Rattle.world.specs.Steps.{IsOfReader, IsStalled, OfQsbr, qsbr_plans, fresh_in}
 use Rattle.world.proofs.Logged.{get_replicate}
 use Rattle.world.proofs.Rows.{Copies, Nests, Unnests, Unlocks, Leaves, Enters, GoesOnline, Announces, Firsts, Nexts, Touches, ReaderRows, IsUpdate, any_retires, any_updates, any_works, Each, Law, by_law}
 use Rattle.world.specs.Layouts.{answers_to, laid_out}
-use Rattle.world.specs.Row.{made}
-use Rattle.world_state.specs.declared.line.ReaderVerb.TheVariants as reader
 
 -- a lock of a closed word stores a fresh one
 entered_fresh : (layout : Layout) (word after : ℕ) (phase : Bool) → (count_of layout word == 0) ≡ true → entered_of layout word phase ≡ Ok after → after ≡ fresh layout phase
@@ -122,25 +118,22 @@ module _ {P : Type 0} (plans : Plans P) where
 
   -- its own move
   own_move : (w : BoardView P) (r : ℕ) (loaded : Option ℕ) (change : Change P) → ReadsBy w r change → Fits w r loaded → Goes w (changed w change) r loaded (made_by plans r w (with_change w (Ok change)).world (with_change w (Ok change)).answer)
-  own_move w r loaded change by fits = subst (λ (x : Change P). Goes w (changed w x) r loaded (made_by plans r w (with_change w (Ok x)).world (with_change w (Ok x)).answer)) by.is (record {
-    later = Some w.grace.word;
-    fits = λ copied e.
-        let c = by.loads_by.copies copied (sym (ap (λ (x : ReaderState). x.copy) new) ∙ e) in
-        (sym (ap (λ (n : ℕ). Some n) c.0), λ flavour. ap (λ (x : ReaderState). count_of w.layout x.word == 0) new ∙ c.1 flavour);
-    stores = λ ms h. (
-      (λ opens.
-          let o = by.loads_by.opens opens in
-          let f = fits o.0 (ap (λ (x : ReaderState). x.copy) old ∙ o.1) in
-          (o.0, f.0, ap (λ (x : ReaderState). x.word) new ∙ o.2 (λ flavour. sym (ap (λ (x : ReaderState). count_of w.layout x.word == 0) old) ∙ f.1 flavour))),
-      h,
-    );
-  })
-    where
-      old : reader_of w r ≡ by.state
-      old = get_or_from_slice_get w.readers r by.state new_reader by.was
-
-      new : get_or (slice_set w.readers r by.step.state) r new_reader ≡ by.step.state
-      new = get_or-set_same w.readers r by.step.state new_reader (slice_get_within w.readers r by.state by.was)
+  own_move w r loaded change by fits =
+      let old : reader_of w r ≡ by.state = get_or_from_slice_get w.readers r by.state new_reader by.was in
+      let new : get_or (slice_set w.readers r by.step.state) r new_reader ≡ by.step.state = get_or-set_same w.readers r by.step.state new_reader (slice_get_within w.readers r by.state by.was) in
+      subst (λ (x : Change P). Goes w (changed w x) r loaded (made_by plans r w (with_change w (Ok x)).world (with_change w (Ok x)).answer)) by.is (record {
+        later = Some w.grace.word;
+        fits = λ copied e.
+            let c = by.loads_by.copies copied (sym (ap (λ (x : ReaderState). x.copy) new) ∙ e) in
+            (sym (ap (λ (n : ℕ). Some n) c.0), λ flavour. ap (λ (x : ReaderState). count_of w.layout x.word == 0) new ∙ c.1 flavour);
+        stores = λ ms h. (
+          (λ opens.
+              let o = by.loads_by.opens opens in
+              let f = fits o.0 (ap (λ (x : ReaderState). x.copy) old ∙ o.1) in
+              (o.0, f.0, ap (λ (x : ReaderState). x.word) new ∙ o.2 (λ flavour. sym (ap (λ (x : ReaderState). count_of w.layout x.word == 0) old) ∙ f.1 flavour))),
+          h,
+        );
+      })
 
   goes_over : (w : BoardView P) (r : ℕ) (loaded : Option ℕ) (l : Line) (change : Change P) → ReadsOver w l change → Fits w r loaded → Goes w (changed w change) r loaded (moves_by r w l (Ok change))
   goes_over w r loaded (Reader k verb) change by fits = this (eqb_tells k r)
@@ -199,7 +192,7 @@ module _ (layout : Layout) where
     where
       by : (v : Option ReaderState) (verb : ReaderVerb) → made (of_reader true (laid layout w) r verb v) ≡ made (of_reader true w r verb v)
       by None verb = refl
-      by (Some v) reader.GoOn = refl
+      by (Some v) ReaderVerb.GoOn = refl
       by (Some v) _ = refl
   same_change w (Updater u verb) = refl
   same_change w (Worker k verb) = refl

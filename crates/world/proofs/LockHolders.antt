@@ -1,29 +1,17 @@
 -- Each lock is held by just who is inside.
-use Rattle.world.proofs.Cited.{◌≡◌, ◌≢◌, inl, inr, ℕ, ◌+◌, ◌%◌, ◌^◌, ◌<◌, ◌≤◌, true, List, length, slice_get, slice_set, Option, Some, None, refl, sym, ap, ◌∙◌, subst, get_or-set_same, none-some, same_Some, get_or_from_slice_get, slice_get_within, ObjectId, Layout, SyncCore, Tickets, WorkerCore, new_core, Config, Line, ObjectState, QueueAct, QueueState, Holder, RetireStep, UpdaterPlace, Idle, Syncs, Retires, UpdaterState, WorkerState, Change, Grace, Work, is_within_limits, new_worker, empty_queue_state, acted, held_by, changed_at, acted_at, held_at, Plans, BoardView, fresh_at, changed, idle, queue_at, changed_length}
-use Rattle.call_rcu_worker.specs.declared.sync.SyncCore.TheVariants as core
-use Rattle.call_rcu_worker.specs.declared.worker.WorkerCore.TheVariants as worker
+use Rattle.world.proofs.Cited.{◌≡◌, ◌≢◌, inl, inr, ℕ, ◌+◌, ◌%◌, ◌^◌, ◌<◌, ◌≤◌, true, List, length, slice_get, slice_set, Option, Some, None, refl, sym, ap, ◌∙◌, subst, get_or-set_same, none-some, same_Some, get_or_from_slice_get, slice_get_within, ObjectId, Layout, SyncCore, Tickets, WorkerCore, new_core, Config, Line, ObjectState, QueueAct, QueueState, Holder, RetireStep, UpdaterPlace, Idle, Syncs, Retires, UpdaterState, WorkerState, Change, Grace, Work, is_within_limits, new_worker, empty_queue_state, acted, held_by, changed_at, acted_at, held_at, Plans, BoardView, fresh_at, changed, idle, queue_at, changed_length, GraceStep, sync_place, world_after, IsInside, SyncsInside, WorksInside, IsInsideNow, IsRetiring, AreHeldInside, queue_of, retire_on, ask_for, worker_act}
 use Rattle.call_rcu_worker.specs.Worker.{synced as synced_to}
-use Rattle.world_state.specs.declared.queue.QueueAct.TheVariants as act
-use Rattle.world_state.specs.declared.updater.Holder.TheVariants as holder
-use Rattle.world_state.specs.declared.updater.RetireStep.TheVariants as due
-use Rattle.world.specs.declared.grace.GraceStep.{GraceStep}
-use Rattle.world.specs.Grace.{sync_place}
-use Rattle.world.specs.Lines.{world_after}
-use Rattle.world.specs.Locks.{IsInside, SyncsInside, WorksInside, IsInsideNow, IsRetiring, AreHeldInside}
-use Rattle.world.specs.Queues.{queue_of, retire_on}
-use Rattle.world.specs.Workers.{ask_for, worker_act}
 use Rattle.world.proofs.Callbacks.{RetireKept, own_queue, at_queues}
 use Rattle.world.proofs.Fence.{Laws, Holds}
-use Rattle.world.proofs.GraceRows.{LockMoves, Fits, fits_step}
+use Rattle.world.proofs.Rows.{by_option, LockMoves, Fits, fits_step, ByPush, ByReplace, ByCut, ByPushed, ByReplaced, BySync, ByTurn, ByStart, ByPoll, ByHold, ByRetire, ByBarrier, ByNote, ByCheck, ByClear, UpdaterRows, WasAt, WorkedAt, SyncsAt, Law}
 use Rattle.world.proofs.Logged.{get_replicate, Logged, logged, always}
-use Rattle.world.proofs.Rows.{ByPush, ByReplace, ByCut, ByPushed, ByReplaced, BySync, ByTurn, ByStart, ByPoll, ByHold, ByRetire, ByBarrier, ByNote, ByCheck, ByClear, UpdaterRows, WasAt, WorkedAt, SyncsAt, Law}
 use Rattle.world.proofs.State.{Syncing, Working, asker_of, holder_of, core_work, place_work, worker_work, updater_at, worker_at, at_updaters, at_workers}
 
 -- ---- who holds a lock is inside
 
 abbrev InsideOf : {P : Type 0} → List (UpdaterState P) → List (WorkerState P) → Holder → Type 0
-InsideOf updaters workers (holder.Updater u) = SyncsInside (updater_at updaters u).place
-InsideOf updaters workers (holder.Worker k) = WorksInside (worker_at workers k).core
+InsideOf updaters workers (Holder.Updater u) = SyncsInside (updater_at updaters u).place
+InsideOf updaters workers (Holder.Worker k) = WorksInside (worker_at workers k).core
 
 record Owned {P : Type 0} (updaters : List (UpdaterState P)) (workers : List (WorkerState P)) (qs : List QueueState) (held : Option Holder) : Type 0 where
   grace : (h : Holder) → held ≡ Some h → InsideOf updaters workers h
@@ -40,24 +28,21 @@ abbrev KeepsHolder : QueueAct → Type 0
 KeepsHolder act = (q : QueueState) → (acted act q).holder ≡ q.holder
 
 holders_kept : (act : QueueAct) → KeepsHolder act → (qs : List QueueState) (j i : ℕ) → (queue_at (acted_at qs j act) i).holder ≡ (queue_at qs i).holder
-holders_kept act keeps qs j i = by (slice_get qs j) refl
-  where
-    by : (q : Option QueueState) → slice_get qs j ≡ q → (queue_at (acted_at qs j act) i).holder ≡ (queue_at qs i).holder
-    by None is = ap (λ o. (queue_at (changed_at (acted act) qs j o) i).holder) is
-    by (Some q) is = at_queues (λ n x. x.holder ≡ (queue_at qs n).holder) (acted act) qs j (slice_get_within qs j q is) (keeps (queue_at qs j)) (λ n other. refl) i
+holders_kept act keeps qs j i = by_option (λ o. (queue_at (acted_at qs j act) i).holder ≡ (queue_at qs i).holder) (slice_get qs j) (λ is. ap (λ o. (queue_at (changed_at (acted act) qs j o) i).holder) is)
+    (λ q is. at_queues (λ n x. x.holder ≡ (queue_at qs n).holder) (acted act) qs j (slice_get_within qs j q is) (keeps (queue_at qs j)) (λ n other. refl) i)
 
 worker_keeps : {P : Type 0} (seq : ℕ) (core : WorkerCore P Unit) → KeepsHolder (worker_act seq core)
-worker_keeps seq (worker.Syncs core.Asks tickets) = λ q. refl
-worker_keeps seq (worker.Syncs _ tickets) = λ q. refl
+worker_keeps seq (WorkerCore.Syncs SyncCore.Asks tickets) = λ q. refl
+worker_keeps seq (WorkerCore.Syncs _ tickets) = λ q. refl
 worker_keeps seq _ = λ q. refl
 
 -- a grace period that is inside rests so
 inside_place : {P : Type 0} (plans : Plans P) (ask : ℕ) (sync : SyncCore P) → IsInside sync → SyncsInside (sync_place plans ask sync)
-inside_place plans ask core.Asks h = h
+inside_place plans ask SyncCore.Asks h = h
 inside_place plans ask _ h = h
 
 inside_worker : {P : Type 0} (sync : SyncCore P) (tickets : Tickets) → IsInside sync → WorksInside {P = P} (synced_to sync tickets)
-inside_worker core.Asks tickets h = h
+inside_worker SyncCore.Asks tickets h = h
 inside_worker _ tickets h = h
 
 module _ {P : Type 0} (plans : Plans P) (w : BoardView P) where
@@ -70,20 +55,10 @@ module _ {P : Type 0} (plans : Plans P) (w : BoardView P) where
   -- who held the lock, or has taken it
   module _ (me : Holder) (ask : ℕ) (was is : Type 0) (held : Option Holder) (moves : LockMoves plans w me ask was held is) where
     mine : (w.grace.holder ≡ Some me → was) → held ≡ Some me → is
-    mine old e = by moves
-      where
-        by : LockMoves plans w me ask was held is → is
-        by (inl stays) = stays.1 (old (sym stays.0 ∙ e))
-        by (inr (inl taken)) = taken.1
-        by (inr (inr freed)) = absurd (none-some me (sym freed ∙ e))
+    mine old e = elim moves [ inl stays ↦ stays.1 (old (sym stays.0 ∙ e)) | inr more ↦ elim more [ inl taken ↦ taken.1 | inr freed ↦ absurd (none-some me (sym freed ∙ e)) ] ]
 
     theirs : (h : Holder) → (h ≡ me → ⊥) → held ≡ Some h → w.grace.holder ≡ Some h
-    theirs h other e = by moves
-      where
-        by : LockMoves plans w me ask was held is → w.grace.holder ≡ Some h
-        by (inl stays) = sym stays.0 ∙ e
-        by (inr (inl taken)) = absurd (other (same_Some h me (sym e ∙ taken.0)))
-        by (inr (inr freed)) = absurd (none-some h (sym freed ∙ e))
+    theirs h other e = elim moves [ inl stays ↦ sym stays.0 ∙ e | inr more ↦ elim more [ inl taken ↦ absurd (other (same_Some h me (sym e ∙ taken.0))) | inr freed ↦ absurd (none-some h (sym freed ∙ e)) ] ]
 
   module _ (u : ℕ) (x y : UpdaterState P) (there : slice_get w.updaters u ≡ Some x) where
     inside : u < length w.updaters
@@ -92,12 +67,12 @@ module _ {P : Type 0} (plans : Plans P) (w : BoardView P) where
     now : updater_at w.updaters u ≡ x
     now = get_or_from_slice_get w.updaters u x idle there
 
-    grace_owned : (ask : ℕ) (held : Option Holder) → LockMoves plans w (holder.Updater u) ask (SyncsInside x.place) held (SyncsInside y.place) → IsOwned w → (h : Holder) → held ≡ Some h → InsideOf (slice_set w.updaters u y) w.workers h
-    grace_owned ask held moves k (holder.Worker j) e = k.grace (holder.Worker j) (theirs (holder.Updater u) ask _ _ held moves (holder.Worker j) (λ clash. cc) e)
-    grace_owned ask held moves k (holder.Updater v) e =
-        at_updaters (λ n z. held ≡ Some (holder.Updater n) → SyncsInside z.place) w.updaters u y inside
-        (mine (holder.Updater u) ask _ _ held moves (λ f. subst (λ (z : UpdaterState P). SyncsInside z.place) now (k.grace (holder.Updater u) f)))
-        (λ n apart f. k.grace (holder.Updater n) (theirs (holder.Updater u) ask _ _ held moves (holder.Updater n) (λ same. apart (cc)) f)) v e
+    grace_owned : (ask : ℕ) (held : Option Holder) → LockMoves plans w (Holder.Updater u) ask (SyncsInside x.place) held (SyncsInside y.place) → IsOwned w → (h : Holder) → held ≡ Some h → InsideOf (slice_set w.updaters u y) w.workers h
+    grace_owned ask held moves k (Holder.Worker j) e = k.grace (Holder.Worker j) (theirs (Holder.Updater u) ask _ _ held moves (Holder.Worker j) (λ clash. cc) e)
+    grace_owned ask held moves k (Holder.Updater v) e =
+        at_updaters (λ n z. held ≡ Some (Holder.Updater n) → SyncsInside z.place) w.updaters u y inside
+        (mine (Holder.Updater u) ask _ _ held moves (λ f. subst (λ (z : UpdaterState P). SyncsInside z.place) now (k.grace (Holder.Updater u) f)))
+        (λ n apart f. k.grace (Holder.Updater n) (theirs (Holder.Updater u) ask _ _ held moves (Holder.Updater n) (λ same. apart (cc)) f)) v e
 
     abbrev Into : List (UpdaterState P) → ℕ → ℕ → Type 0
     Into updaters q v = (v % length w.queues ≡ q) × IsRetiring (updater_at updaters v).place
@@ -112,7 +87,7 @@ module _ {P : Type 0} (plans : Plans P) (w : BoardView P) where
     )
 
     -- a step that leaves all locks of queues, and retires no less
-    steps : (ask : ℕ) (held : Option Holder) → LockMoves plans w (holder.Updater u) ask (SyncsInside x.place) held (SyncsInside y.place) → (IsRetiring x.place → IsRetiring y.place) → IsOwned w → Owned (slice_set w.updaters u y) w.workers w.queues held
+    steps : (ask : ℕ) (held : Option Holder) → LockMoves plans w (Holder.Updater u) ask (SyncsInside x.place) held (SyncsInside y.place) → (IsRetiring x.place → IsRetiring y.place) → IsOwned w → Owned (slice_set w.updaters u y) w.workers w.queues held
     steps ask held moves goes k = record { grace = grace_owned ask held moves k; queues = λ q v e. carried q (λ same. goes) v (k.queues q v e) }
 
     -- and one from a place that is inside of nothing
@@ -133,16 +108,16 @@ module _ {P : Type 0} (plans : Plans P) (w : BoardView P) where
     }
 
   module _ (n : ℕ) (x y : WorkerState P) (there : slice_get w.workers n ≡ Some x) where
-    works : (ask : ℕ) (held : Option Holder) (act : QueueAct) → LockMoves plans w (holder.Worker n) ask (WorksInside x.core) held (WorksInside y.core) → KeepsHolder act → IsOwned w →
+    works : (ask : ℕ) (held : Option Holder) (act : QueueAct) → LockMoves plans w (Holder.Worker n) ask (WorksInside x.core) held (WorksInside y.core) → KeepsHolder act → IsOwned w →
         Owned w.updaters (slice_set w.workers n y) (acted_at w.queues n act) held
     works ask held act moves keeps k = record { grace = grace; queues = queues }
       where
         grace : (h : Holder) → held ≡ Some h → InsideOf w.updaters (slice_set w.workers n y) h
-        grace (holder.Updater u) e = k.grace (holder.Updater u) (theirs (holder.Worker n) ask _ _ held moves (holder.Updater u) (λ clash. cc) e)
-        grace (holder.Worker j) e =
-            at_workers (λ i z. held ≡ Some (holder.Worker i) → WorksInside z.core) w.workers n y (slice_get_within w.workers n x there)
-            (mine (holder.Worker n) ask _ _ held moves (λ f. subst (λ (z : WorkerState P). WorksInside z.core) (get_or_from_slice_get w.workers n x new_worker there) (k.grace (holder.Worker n) f)))
-            (λ i apart f. k.grace (holder.Worker i) (theirs (holder.Worker n) ask _ _ held moves (holder.Worker i) (λ same. apart (cc)) f)) j e
+        grace (Holder.Updater u) e = k.grace (Holder.Updater u) (theirs (Holder.Worker n) ask _ _ held moves (Holder.Updater u) (λ clash. cc) e)
+        grace (Holder.Worker j) e =
+            at_workers (λ i z. held ≡ Some (Holder.Worker i) → WorksInside z.core) w.workers n y (slice_get_within w.workers n x there)
+            (mine (Holder.Worker n) ask _ _ held moves (λ f. subst (λ (z : WorkerState P). WorksInside z.core) (get_or_from_slice_get w.workers n x new_worker there) (k.grace (Holder.Worker n) f)))
+            (λ i apart f. k.grace (Holder.Worker i) (theirs (Holder.Worker n) ask _ _ held moves (Holder.Worker i) (λ same. apart (cc)) f)) j e
 
         queues : (q u : ℕ) → (queue_at (acted_at w.queues n act) q).holder ≡ Some u → (u % length (acted_at w.queues n act) ≡ q) × IsRetiring (updater_at w.updaters u).place
         queues q u e =
@@ -162,22 +137,22 @@ module _ {P : Type 0} (plans : Plans P) (layout : Layout) (slots : ℕ) (laws : 
     beside : (y : UpdaterState P) → (SyncsInside place → ⊥) → (IsRetiring place → ⊥) → IsOwned w → Owned (slice_set w.updaters u y) w.workers w.queues w.grace.holder
     beside y never none k = outside plans w u x y at.was (not_inside never) (not_retiring none) k
 
-  owned_sync : (u : ℕ) (x : UpdaterState P) (ask : ℕ) (sync : SyncCore P) (step : GraceStep P) → SyncsAt plans w u x ask sync → Fits plans w (holder.Updater u) ask sync step →
+  owned_sync : (u : ℕ) (x : UpdaterState P) (ask : ℕ) (sync : SyncCore P) (step : GraceStep P) → SyncsAt plans w u x ask sync → Fits plans w (Holder.Updater u) ask sync step →
       StaysOwned w (Grace u (record x { place = sync_place plans ask step.core }) step.grace step.answer)
   owned_sync u x ask sync step at fits k = by at
     where
-      moves : (was : Type 0) → (was → IsInside sync) → LockMoves plans w (holder.Updater u) ask was step.grace.holder (SyncsInside (sync_place plans ask step.core))
-      moves was has = lock_over plans w (holder.Updater u) ask step.grace.holder has (inside_place plans ask step.core) fits.lock
+      moves : (was : Type 0) → (was → IsInside sync) → LockMoves plans w (Holder.Updater u) ask was step.grace.holder (SyncsInside (sync_place plans ask step.core))
+      moves was has = lock_over plans w (Holder.Updater u) ask step.grace.holder has (inside_place plans ask step.core) fits.lock
 
       by : SyncsAt plans w u x ask sync → Owned (slice_set w.updaters u (record x { place = sync_place plans ask step.core })) w.workers w.queues step.grace.holder
       by (inl i) = steps plans w u x _ i.was ask step.grace.holder (moves (SyncsInside x.place) (λ h. absurd (not_inside i (λ n. n) h))) (λ h. absurd (not_retiring i (λ n. n) h)) k
       by (inr i) = steps plans w u x _ i.was ask step.grace.holder (moves (SyncsInside x.place) (λ h. subst (λ (p : UpdaterPlace P). SyncsInside p) i.at h)) (λ h. absurd (not_retiring i (λ n. n) h)) k
 
-  owned_work : (n : ℕ) (x : WorkerState P) (sync : SyncCore P) (tickets : Tickets) (step : GraceStep P) → WorkedAt plans w n x (worker.Syncs sync tickets) → Fits plans w (holder.Worker n) (ask_for w x.ask sync) sync step →
+  owned_work : (n : ℕ) (x : WorkerState P) (sync : SyncCore P) (tickets : Tickets) (step : GraceStep P) → WorkedAt plans w n x (WorkerCore.Syncs sync tickets) → Fits plans w (Holder.Worker n) (ask_for w x.ask sync) sync step →
       StaysOwned w (Work n (record { ask = ask_for w x.ask sync; core = synced_to step.core tickets }) step.grace (worker_act step.grace.seq (synced_to step.core tickets)) None step.answer)
   owned_work n x sync tickets step at fits k =
       works plans w n x _ at.was (ask_for w x.ask sync) step.grace.holder (worker_act step.grace.seq (synced_to step.core tickets))
-      (lock_over plans w (holder.Worker n) (ask_for w x.ask sync) step.grace.holder (λ h. subst (λ (c : WorkerCore P Unit). WorksInside c) at.at h) (inside_worker step.core tickets) fits.lock) (worker_keeps step.grace.seq (synced_to step.core tickets)) k
+      (lock_over plans w (Holder.Worker n) (ask_for w x.ask sync) step.grace.holder (λ h. subst (λ (c : WorkerCore P Unit). WorksInside c) at.at h) (inside_worker step.core tickets) fits.lock) (worker_keeps step.grace.seq (synced_to step.core tickets)) k
 
   -- a worker's step that is none of a grace period
   owned_item : (n : ℕ) (x y : WorkerState P) (core : WorkerCore P Unit) (a : QueueAct) → WorkedAt plans w n x core → (WorksInside core → ⊥) → KeepsHolder a → IsOwned w → Owned w.updaters (slice_set w.workers n y) (acted_at w.queues n a) w.grace.holder
@@ -193,11 +168,11 @@ module _ {P : Type 0} (plans : Plans P) (layout : Layout) (slots : ℕ) (laws : 
       (λ i apart same h. retires) k
 
   owned_retire : (u : ℕ) (x : UpdaterState P) (o : ObjectId) (step : RetireStep) → WasAt plans w u x (Retires o step) → StaysOwned w (retire_on w u x o step)
-  owned_retire u x o due.Mark at k = owned_going u x _ o due.Mark act.Leave at tt (λ q. refl) k
-  owned_retire u x o due.Count at k = owned_going u x _ o due.Count act.Count at tt (λ q. refl) k
-  owned_retire u x o due.Push at k = owned_going u x _ o due.Push (act.Push o) at tt (λ q. refl) k
-  owned_retire u x o due.Free at k =
-      queue_changed plans w u x _ at.was (acted act.Free) (queue_of w u) (own_queue u l.callbacks.sizes) (not_inside at (λ n. n))
+  owned_retire u x o RetireStep.Mark at k = owned_going u x _ o RetireStep.Mark QueueAct.Leave at tt (λ q. refl) k
+  owned_retire u x o RetireStep.Count at k = owned_going u x _ o RetireStep.Count QueueAct.Count at tt (λ q. refl) k
+  owned_retire u x o RetireStep.Push at k = owned_going u x _ o RetireStep.Push (QueueAct.Push o) at tt (λ q. refl) k
+  owned_retire u x o RetireStep.Free at k =
+      queue_changed plans w u x _ at.was (acted QueueAct.Free) (queue_of w u) (own_queue u l.callbacks.sizes) (not_inside at (λ n. n))
       (λ v e. absurd (none-some v e)) (λ i apart same h. absurd (apart (sym same))) k
 
   owned_hold : (u : ℕ) (x y : UpdaterState P) → WasAt plans w u x Idle → IsRetiring y.place → IsOwned w → Owned (slice_set w.updaters u y) w.workers (held_at w.queues (queue_of w u) u) w.grace.holder
@@ -215,8 +190,8 @@ module _ {P : Type 0} (plans : Plans P) (layout : Layout) (slots : ℕ) (laws : 
   owned_updates u x _ _ (ByCut o y at is) k = beside at _ (λ n. n) (λ n. n) k
   owned_updates u x _ _ (ByPushed new y at is) k = beside at _ (λ n. n) (λ n. n) k
   owned_updates u x _ _ (ByReplaced old new y at is) k = beside at _ (λ n. n) (λ n. n) k
-  owned_updates u x _ _ (BySync step at is goes on) k = owned_sync u x (w.grace.asks + 1) new_core step (inl at) (fits_step plans w (holder.Updater u) (w.grace.asks + 1) new_core step is) k
-  owned_updates u x _ _ (ByTurn ask sync step at is goes on) k = owned_sync u x ask sync step (inr at) (fits_step plans w (holder.Updater u) ask sync step is) k
+  owned_updates u x _ _ (BySync step at is goes on) k = owned_sync u x (w.grace.asks + 1) new_core step (inl at) (fits_step plans w (Holder.Updater u) (w.grace.asks + 1) new_core step is) k
+  owned_updates u x _ _ (ByTurn ask sync step at is goes on) k = owned_sync u x ask sync step (inr at) (fits_step plans w (Holder.Updater u) ask sync step is) k
   owned_updates u x _ _ (ByStart cookie at is) k = beside at _ (λ n. n) (λ n. n) k
   owned_updates u x _ _ (ByPoll s at is up) k = beside at _ (λ n. n) (λ n. n) k
   owned_updates u x _ _ (ByHold o q at may is free) k = owned_hold u x _ at tt k
@@ -232,10 +207,10 @@ module _ {P : Type 0} (plans : Plans P) (layout : Layout) (slots : ℕ) (laws : 
     reads = λ r v verb was step row k. record { grace = k.grace; queues = k.queues };
     updates = λ u x was. owned_updates u x;
     works = λ n x was. record {
-      takes = λ q at is free some k. owned_item n x _ worker.Idle act.Seal at (λ h. h) (λ q. refl) k;
-      works = λ sync tickets step at is goes on. owned_work n x sync tickets step at (fits_step plans w (holder.Worker n) (ask_for w x.ask sync) sync step is);
-      runs = λ tickets first at is k. owned_item n x _ (worker.Pops tickets) act.Pop at (λ h. h) (λ q. refl) k;
-      counts = λ tickets ticket item at k. owned_item n x _ (worker.Ran tickets ticket item) act.Finish at (λ h. h) (λ q. refl) k;
+      takes = λ q at is free some k. owned_item n x _ WorkerCore.Idle QueueAct.Seal at (λ h. h) (λ q. refl) k;
+      works = λ sync tickets step at is goes on. owned_work n x sync tickets step at (fits_step plans w (Holder.Worker n) (ask_for w x.ask sync) sync step is);
+      runs = λ tickets first at is k. owned_item n x _ (WorkerCore.Pops tickets) QueueAct.Pop at (λ h. h) (λ q. refl) k;
+      counts = λ tickets ticket item at k. owned_item n x _ (WorkerCore.Ran tickets ticket item) QueueAct.Finish at (λ h. h) (λ q. refl) k;
     };
   }
 
@@ -243,7 +218,7 @@ module _ {P : Type 0} (plans : Plans P) (layout : Layout) (slots : ℕ) (laws : 
 
 module _ {P : Type 0} (plans : Plans P) (layout : Layout) (slots : ℕ) (laws : Laws plans layout slots) where
   inside_holds : (ask : ℕ) (sync : SyncCore P) → IsInside sync → Holds (core_work ask sync)
-  inside_holds ask core.Asks h = h
+  inside_holds ask SyncCore.Asks h = h
   inside_holds ask _ h = h
 
   place_holds : (place : UpdaterPlace P) → SyncsInside place → Holds (place_work place)
@@ -251,13 +226,13 @@ module _ {P : Type 0} (plans : Plans P) (layout : Layout) (slots : ℕ) (laws : 
   place_holds _ h = h
 
   worker_holds : (ask : ℕ) (core : WorkerCore P Unit) → WorksInside core → Holds (worker_work ask core)
-  worker_holds ask (worker.Syncs sync tickets) h = inside_holds ask sync h
+  worker_holds ask (WorkerCore.Syncs sync tickets) h = inside_holds ask sync h
   worker_holds ask _ h = h
 
   asks_as : (held : Option Holder) (h : Holder) → holder_of held ≡ Some (asker_of h) → held ≡ Some h
   asks_as None h e = absurd (none-some (asker_of h) e)
-  asks_as (Some (holder.Updater u)) (holder.Updater v) e = cc
-  asks_as (Some (holder.Worker u)) (holder.Worker v) e = cc
+  asks_as (Some (Holder.Updater u)) (Holder.Updater v) e = cc
+  asks_as (Some (Holder.Worker u)) (Holder.Worker v) e = cc
   asks_as (Some _) _ e = cc
 
   retiring_holds : (os : List ObjectState) (qs : List QueueState) (count u : ℕ) (place : UpdaterPlace P) → RetireKept os qs count u place → IsRetiring place → (queue_at qs (u % length qs)).holder ≡ Some u
@@ -271,12 +246,12 @@ module _ {P : Type 0} (plans : Plans P) (layout : Layout) (slots : ℕ) (laws : 
   }
     where
       owner : (h : Holder) → w.grace.holder ≡ Some h → IsInsideNow w h
-      owner (holder.Updater u) e = k.grace (holder.Updater u) e
-      owner (holder.Worker n) e = k.grace (holder.Worker n) e
+      owner (Holder.Updater u) e = k.grace (Holder.Updater u) e
+      owner (Holder.Worker n) e = k.grace (Holder.Worker n) e
 
       holds : (h : Holder) → IsInsideNow w h → w.grace.holder ≡ Some h
-      holds (holder.Updater u) i = asks_as w.grace.holder (holder.Updater u) (l.kept.part.grace_kept.held (Syncing u) (place_holds (updater_at w.updaters u).place i))
-      holds (holder.Worker n) i = asks_as w.grace.holder (holder.Worker n) (l.kept.part.grace_kept.held (Working n) (worker_holds (worker_at w.workers n).ask (worker_at w.workers n).core i))
+      holds (Holder.Updater u) i = asks_as w.grace.holder (Holder.Updater u) (l.kept.part.grace_kept.held (Syncing u) (place_holds (updater_at w.updaters u).place i))
+      holds (Holder.Worker n) i = asks_as w.grace.holder (Holder.Worker n) (l.kept.part.grace_kept.held (Working n) (worker_holds (worker_at w.workers n).ask (worker_at w.workers n).core i))
 
 fresh_owned : {P : Type 0} (config : Config) (seq : ℕ) → IsOwned (fresh_at {P = P} config seq)
 fresh_owned {P} config seq = record {

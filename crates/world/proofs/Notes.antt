@@ -1,20 +1,9 @@
 -- What readers and updaters note is what their latest lines were answered.
-use Rattle.world.proofs.Cited.{◌≡◌, ◌≢◌, ℕ, ◌+◌, ◌==◌, cond, Bool, List, [], ◌∷◌, ◌++◌, slice_get, slice_set, Option, Some, None, Ok, refl, sym, ap, ◌∙◌, subst, option_or, eq-eqb, ne_eqb, cond-true, cond-false, get_or_from_slice_get, slice_get_within, Event, ObjectId, Layout, announced, SyncCore, Line, ReaderState, ReaderStep, Holder, RetireStep, Retires, UpdaterState, Change, Read, Begin, Publish, Grace, Hold, Bar, section_of, new_reader, quietly, telling, with_word, opened, closed, Plans, BoardView, changed, told, true, false, Result, Err, Refusal, Answer, Events, Quiet, Reader, Updater, Worker, UpdaterVerb, Started, UpdaterPlace, Idle, answer_of, idle, Config, fresh_at}
+use Rattle.world.proofs.Cited.{◌≡◌, ◌≢◌, ℕ, ◌+◌, ◌==◌, cond, Bool, List, [], ◌∷◌, ◌++◌, slice_get, slice_set, Option, Some, None, Ok, refl, sym, ap, ◌∙◌, subst, option_or, eq-eqb, ne_eqb, cond-true, cond-false, get_or_from_slice_get, slice_get_within, Event, ObjectId, Layout, announced, Line, ReaderState, ReaderStep, Holder, RetireStep, Retires, UpdaterState, Change, Read, Begin, Publish, Grace, Hold, Bar, section_of, new_reader, quietly, telling, with_word, opened, closed, Plans, BoardView, changed, told, true, false, Result, Err, Refusal, Answer, Events, Quiet, Reader, Updater, Worker, UpdaterVerb, Started, UpdaterPlace, Idle, answer_of, idle, Config, fresh_at, world_after, change_of, with_change, outcome_of, retire_on, queue_of, ask_for, events_of}
 use Rattle.std.specs.List.{AllByRecursion as Every}
-use Rattle.rcu_model.specs.declared.event.Event.TheVariants as events
-use Rattle.world_state.specs.declared.updater.Holder.TheVariants as holder
-use Rattle.world_state.specs.declared.updater.RetireStep.TheVariants as retire
-use Rattle.world.specs.declared.grace.GraceStep.{GraceStep}
-use Rattle.world.specs.Lines.{world_after, change_of, with_change, outcome_of}
 use Rattle.world.specs.Notes.{got_after, got_last, AreFromLast, cursor_of, Reply, note_of, noted_by, noted_after, noted_last, IsAnswerTo, IsOfNoted, IsPolled, ArePolled, started_by, replies_to, AreNoted}
-use Rattle.world.specs.Queues.{retire_on, queue_of}
-use Rattle.world.specs.Workers.{ask_for}
-use Rattle.world.specs.Grace.{grace_row}
-use Rattle.world.proofs.GraceRows.{tells}
-use Rattle.world.proofs.Rows.{Copies, Nests, Unnests, Unlocks, Leaves, Enters, GoesOnline, Announces, Firsts, Nexts, Touches, ReaderRows, IsPublishing, IsWaiting, IsUpdate, any_updates, WasAt, Law, over_lines, stalled_silent, ByStart, ByPoll, ByRetire, any_works, UpdaterRows, Each, by_law}
+use Rattle.world.proofs.Rows.{tells, Copies, Nests, Unnests, Unlocks, Leaves, Enters, GoesOnline, Announces, Firsts, Nexts, Touches, ReaderRows, IsPublishing, IsWaiting, IsUpdate, any_updates, WasAt, Law, over_lines, stalled_silent, ByStart, ByPoll, ByRetire, any_works, UpdaterRows, Each, by_law}
 use Rattle.world.proofs.State.{at_each, at_updaters, told_by, log_after, updater_at}
-use Rattle.world_state.specs.declared.line.UpdaterVerb.TheVariants as updater
-use Rattle.world.specs.Steps.{events_of}
 use Rattle.world.proofs.Logged.{get_replicate}
 
 -- the same number, and two that differ
@@ -38,10 +27,10 @@ module _ {P : Type 0} (qsbr : Bool) (layout : Layout) (w : BoardView P) (r : ℕ
   stands_quiet : (v' : ReaderState) → v'.cursor ≡ v.cursor → Stands r v (quietly v')
   stands_quiet v' same = record { own = (same, tt); others = λ s apart got. (refl, tt) }
 
-  stands_opened : (word : ℕ) → Stands r v (telling (events.Open (section_of r (v.ordinal + 1))) (opened v word))
+  stands_opened : (word : ℕ) → Stands r v (telling (Event.Open (section_of r (v.ordinal + 1))) (opened v word))
   stands_opened word = record { own = (sym (itself r None v.cursor), (tt, tt)); others = λ s apart got. (sym (another r s None got apart), (tt, tt)) }
 
-  stands_closed : (word : ℕ) → Stands r v (telling (events.Close (section_of r v.ordinal)) (closed v word))
+  stands_closed : (word : ℕ) → Stands r v (telling (Event.Close (section_of r v.ordinal)) (closed v word))
   stands_closed word = record { own = (sym (itself r None v.cursor), (tt, tt)); others = λ s apart got. (sym (another r s None got apart), (tt, tt)) }
 
   stands : ReaderRows qsbr layout w r v (Stands r v)
@@ -80,29 +69,25 @@ module _ {P : Type 0} (plans : Plans P) (w : BoardView P) where
       (subst (λ (c : Option ObjectId). GoesOn r c step.state.cursor (told step.answer)) (sym (ap (λ (y : ReaderState). y.cursor) (get_or_from_slice_get w.readers r v new_reader was))) stands.own)
       (λ s apart. stands.others s apart (cursor_of w s))
 
-  -- a step of a grace period tells readers nothing
-  nothing_read : (me : Holder) (ask : ℕ) (sync : SyncCore P) (step : GraceStep P) → grace_row plans w me ask sync ≡ Ok step → (s : ℕ) (got : Option ObjectId) → GoesOn s got got (told step.answer)
-  nothing_read me ask sync step is s got = tells plans w me ask (GoesOn s got got) (refl, tt) (refl, (tt, tt)) (refl, (tt, tt)) sync step is
-
   read_retire : (u : ℕ) (x : UpdaterState P) (o : ObjectId) (step : RetireStep) → WasAt plans w u x (Retires o step) → GoOnBy (retire_on w u x o step)
-  read_retire u x o retire.Mark at s = (refl, (tt, tt))
-  read_retire u x o retire.Count at s = (refl, tt)
-  read_retire u x o retire.Push at s = (refl, (tt, tt))
-  read_retire u x o retire.Free at s = (refl, tt)
+  read_retire u x o RetireStep.Mark at s = (refl, (tt, tt))
+  read_retire u x o RetireStep.Count at s = (refl, tt)
+  read_retire u x o RetireStep.Push at s = (refl, (tt, tt))
+  read_retire u x o RetireStep.Free at s = (refl, tt)
 
   -- and updaters tell them nothing
   published_on : (s : ℕ) (got : Option ObjectId) (e : Event) → IsPublishing e → GoesOn s got got (e ∷ [])
-  published_on s got (events.Push c o) is = (refl, (tt, tt))
-  published_on s got (events.Replace c old new) is = (refl, (tt, tt))
-  published_on s got (events.Cut c o) is = (refl, (tt, tt))
+  published_on s got (Event.Push c o) is = (refl, (tt, tt))
+  published_on s got (Event.Replace c old new) is = (refl, (tt, tt))
+  published_on s got (Event.Cut c o) is = (refl, (tt, tt))
   published_on s got _ is = absurd is
 
   waits_on : (s : ℕ) (got : Option ObjectId) (es : List Event) → Every IsWaiting es → GoesOn s got got es
   waits_on s got [] is = (refl, tt)
-  waits_on s got (events.Ask a ∷ es) is = let more = waits_on s got es is.1 in (more.0, (tt, more.1))
-  waits_on s got (events.Answer a ∷ es) is = let more = waits_on s got es is.1 in (more.0, (tt, more.1))
-  waits_on s got (events.Bar b ∷ es) is = let more = waits_on s got es is.1 in (more.0, (tt, more.1))
-  waits_on s got (events.Clear b ∷ es) is = let more = waits_on s got es is.1 in (more.0, (tt, more.1))
+  waits_on s got (Event.Ask a ∷ es) is = let more = waits_on s got es is.1 in (more.0, (tt, more.1))
+  waits_on s got (Event.Answer a ∷ es) is = let more = waits_on s got es is.1 in (more.0, (tt, more.1))
+  waits_on s got (Event.Bar b ∷ es) is = let more = waits_on s got es is.1 in (more.0, (tt, more.1))
+  waits_on s got (Event.Clear b ∷ es) is = let more = waits_on s got es is.1 in (more.0, (tt, more.1))
   waits_on s got (_ ∷ es) is = absurd is.0
 
   update_on : (change : Change P) → IsUpdate change → GoOnBy change
@@ -120,7 +105,7 @@ module _ {P : Type 0} (plans : Plans P) (w : BoardView P) where
     updates = λ u x was. any_updates plans w u x (λ v. GoOnBy) (λ v. update_on) (read_retire u x);
     works = λ k x was. record {
       takes = λ q at is free some s. (refl, tt);
-      works = λ sync tickets step at is goes on s. nothing_read (holder.Worker k) (ask_for w x.ask sync) sync step is s (cursor_of w s);
+      works = λ sync tickets step at is goes on s. tells plans w (Holder.Worker k) (ask_for w x.ask sync) (GoesOn s (cursor_of w s) (cursor_of w s)) (refl, tt) (refl, (tt, tt)) (refl, (tt, tt)) sync step is;
       runs = λ tickets first at is s. (refl, (tt, tt));
       counts = λ tickets ticket item at s. (refl, tt);
     };
@@ -164,8 +149,8 @@ module _ {P : Type 0} (plans : Plans P) (w : BoardView P) where
 
   -- a reply that tells nothing leaves it
   leaves : (v : UpdaterVerb) (reply : Result Answer Refusal) → events_of reply ≡ [] → (n : Option Started) → (noted_by v w.grace.seq reply n ≡ n) × IsOfNoted v reply n
-  leaves updater.Start (Ok (Events e second)) none n = absurd (cc)
-  leaves updater.Poll (Ok (Events e second)) none n = absurd (cc)
+  leaves UpdaterVerb.Start (Ok (Events e second)) none n = absurd (cc)
+  leaves UpdaterVerb.Poll (Ok (Events e second)) none n = absurd (cc)
   leaves _ _ none n = (refl, tt)
 
   unmoved : (line : Line) (reply : Result Answer Refusal) → events_of reply ≡ [] → (s : ℕ) (n : Option Started) → NotedBy line reply s n n
@@ -190,15 +175,15 @@ module _ {P : Type 0} (plans : Plans P) (w : BoardView P) where
     same : (v : UpdaterVerb) (place : UpdaterPlace P) (answer : Answer) → ((n : Option Started) → (noted_by v w.grace.seq (Ok answer) n ≡ n) × IsOfNoted v (Ok answer) n) → (s : ℕ) → NotedBy (Updater u v) (Ok answer) s (started_by w s) (updater_at (slice_set w.updaters u (record x { place = place })) s).started
     same v place answer left = noted v (record x { place = place }) answer (sym noted_now ∙ sym (left (started_by w u)).0) (left (started_by w u)).1
 
-    retires : (o : ObjectId) (step : RetireStep) → NotedOver (Updater u updater.GoOn) (retire_on w u x o step)
-    retires o retire.Mark = same updater.GoOn (Retires o retire.Count) (Events (events.Retire o) None) (λ n. (refl, tt))
-    retires o retire.Count = same updater.GoOn (Retires o retire.Push) Quiet (λ n. (refl, tt))
-    retires o retire.Push = same updater.GoOn (Retires o retire.Free) (Events (events.Queue o (queue_of w u)) None) (λ n. (refl, tt))
-    retires o retire.Free = same updater.GoOn Idle Quiet (λ n. (refl, tt))
+    retires : (o : ObjectId) (step : RetireStep) → NotedOver (Updater u UpdaterVerb.GoOn) (retire_on w u x o step)
+    retires o RetireStep.Mark = same UpdaterVerb.GoOn (Retires o RetireStep.Count) (Events (Event.Retire o) None) (λ n. (refl, tt))
+    retires o RetireStep.Count = same UpdaterVerb.GoOn (Retires o RetireStep.Push) Quiet (λ n. (refl, tt))
+    retires o RetireStep.Push = same UpdaterVerb.GoOn (Retires o RetireStep.Free) (Events (Event.Queue o (queue_of w u)) None) (λ n. (refl, tt))
+    retires o RetireStep.Free = same UpdaterVerb.GoOn Idle Quiet (λ n. (refl, tt))
 
     updates : UpdaterRows plans w u x (λ v. NotedOver (Updater u v))
-    updates _ _ (ByStart cookie at is) = noted updater.Start _ (Events (events.Ask (w.grace.asks + 1)) None) (sym (ap (note_of (events.Ask (w.grace.asks + 1))) is)) tt
-    updates _ _ (ByPoll y at is up) = noted updater.Poll _ (Events (events.Answer y.ask) None) refl (subst (λ (n : Option Started). IsAnswerTo n (events.Answer y.ask)) (sym (noted_now ∙ is)) refl)
+    updates _ _ (ByStart cookie at is) = noted UpdaterVerb.Start _ (Events (Event.Ask (w.grace.asks + 1)) None) (sym (ap (note_of (Event.Ask (w.grace.asks + 1))) is)) tt
+    updates _ _ (ByPoll y at is up) = noted UpdaterVerb.Poll _ (Events (Event.Answer y.ask) None) refl (subst (λ (n : Option Started). IsAnswerTo n (Event.Answer y.ask)) (sym (noted_now ∙ is)) refl)
     updates _ _ (ByRetire o step at) = retires o step
     updates v change _ = same v _ (answer_of change) (λ n. (refl, tt))
 

@@ -1,17 +1,9 @@
 -- What the contracts of a world say of its steps, and of the logs of worlds that lines led to.
-use Rattle.world.proofs.Cited.{◌≡◌, List, [], ◌∷◌, ◌++◌, Result, Ok, Err, refl, sym, ap, ◌∙◌, subst, Refusal, Answer, Line, Plans, BoardView, fresh_at, ℕ, append_assoc, Event, MembPlan, QsbrPlan, Config, Flavour, Memb, Qsbr, Change, Begin, Hold, Stay, told, answer_of, changed, ◌%◌, ◌^◌, ◌≤◌, ◌==◌, ◌&&◌, true, nat_le, and_parts, eqb-true, leb-true, is_within_limits, IfOk, IsRun, IsSafeLog, Bool, Layout, Updater, Worker, ReaderState, true≢false, inl, inr, Option, Some, None, arith, same_Some, QueueState, Grows, ⊎_elim, cond, false, nat_lt, slice_get, IfErr, items_of, WorkerState}
-use Rattle.world.specs.Lines.{outcome_of, world_after, change_of, with_change, Outcome}
-use Rattle.world.specs.Shown.{Meets}
-use Rattle.world.specs.Reached.{IsReached}
+use Rattle.world.proofs.Cited.{◌≡◌, List, [], ◌∷◌, ◌++◌, Result, Ok, Err, refl, sym, ap, ◌∙◌, subst, Refusal, Answer, Line, Plans, BoardView, fresh_at, ℕ, append_assoc, Event, MembPlan, QsbrPlan, Config, Flavour, Memb, Qsbr, Change, Begin, Hold, Stay, told, answer_of, changed, ◌%◌, ◌^◌, ◌≤◌, ◌==◌, ◌&&◌, true, nat_le, and_parts, eqb-true, leb-true, is_within_limits, IfOk, IsRun, IsSafeLog, Bool, Layout, Updater, Worker, ReaderState, true≢false, inl, inr, Option, Some, None, arith, same_Some, QueueState, Grows, ⊎_elim, cond, false, nat_lt, slice_get, IfErr, items_of, WorkerState, outcome_of, world_after, change_of, with_change, Outcome, Meets, IsReached, MeetsDrain, drain_lines, items_in, items_to_drain, is_busy, steps_with, steps_in, first_failing, Row, line_tests, StepsBy, IsTested, MeetsTests, exact, tests_of, IsStepError, is_none_left}
 use Rattle.std.proofs.lemmas.List.{append-nil}
 use Rattle.world.proofs.Rows.{stalled_silent, IsUpdate, any_retires, any_updates, any_works, Each, Law, by_law, Copies, ReaderRows, Fails, whichever, Sweep, sweep}
 use Rattle.world.specs.Steps.{WorldView, OfMemb, OfQsbr, memb_plans, qsbr_plans, step_of, log_of, fresh_in, world_after_lines, events_of, answered_events, is_supported_at, IsReachedWorld, fresh_world_at, IsOfReader, IsPrompt, IsMade}
-use Rattle.world.specs.Drain.{MeetsDrain, drain_lines, items_in, items_to_drain, is_busy, steps_with, steps_in}
-use Rattle.world.specs.Row.{first_failing, Row}
-use Rattle.world.specs.Tests.{line_tests, StepsBy, IsTested, MeetsTests, exact, tests_of}
 use Rattle.std.specs.Prelude.{length}
-use Rattle.world.specs.Refusals.{IsStepError}
-use Rattle.world.specs.Workers.{is_none_left}
 
 pub after_snoc : {P : Type 0} (plans : Plans P) (w : BoardView P) (lines : List Line) (line : Line) → world_after plans w (lines ++ line ∷ []) ≡ (outcome_of plans (world_after plans w lines) line).world
 after_snoc plans w [] line = refl
@@ -82,12 +74,9 @@ lines_told w (line ∷ lines) =
     ∙ ap (λ (es : List Event). es ++ answered_events ((step_of w line).world) lines) (step_told w line)
     ∙ append_assoc (log_of w) (events_of (step_of w line).answer) (answered_events ((step_of w line).world) lines)
 
-told_in : (flavour : Flavour) (config : Config) (seq : ℕ) (lines : List Line) → log_of (world_after_lines (fresh_in flavour config seq) lines) ≡ answered_events (fresh_in flavour config seq) lines
-told_in Memb config seq lines = lines_told (fresh_in Memb config seq) lines
-told_in Qsbr config seq lines = lines_told (fresh_in Qsbr config seq) lines
-
 pub log_answered : (config : Config) (seq : ℕ) (lines : List Line) → log_of (world_after_lines (fresh_in config.flavour config seq) lines) ≡ answered_events (fresh_in config.flavour config seq) lines
-log_answered config seq lines = told_in config.flavour config seq lines
+log_answered config seq lines = elim config.flavour as (λ flavour. log_of (world_after_lines (fresh_in flavour config seq) lines) ≡ answered_events (fresh_in flavour config seq) lines)
+    [ Memb ↦ lines_told (fresh_in Memb config seq) lines | Qsbr ↦ lines_told (fresh_in Qsbr config seq) lines ]
 
 pub memb_lines : (w : BoardView MembPlan) (lines : List Line) → world_after_lines (OfMemb w) lines ≡ OfMemb (world_after memb_plans w lines)
 memb_lines w [] = refl
@@ -133,12 +122,8 @@ reached_run memb qsbr (OfMemb w) r = run_of memb_plans memb w r
 reached_run memb qsbr (OfQsbr w) r = run_of qsbr_plans qsbr w r
 
 -- a fresh world's log is empty
-fresh_in_log : (flavour : Flavour) (config : Config) (seq : ℕ) → log_of (fresh_in flavour config seq) ≡ []
-fresh_in_log Memb config seq = refl
-fresh_in_log Qsbr config seq = refl
-
 pub fresh_log : (config : Config) (seq : ℕ) → log_of (fresh_world_at config seq) ≡ []
-fresh_log config seq = fresh_in_log config.flavour config seq
+fresh_log config seq = elim config.flavour as (λ flavour. log_of (fresh_in flavour config seq) ≡ []) [ Memb ↦ refl | Qsbr ↦ refl ]
 
 -- a drain's log, as its contract says it
 pub drain_log : (k : ℕ) (old new : WorldView) (r : Result ℕ Refusal) → MeetsDrain k old new r → IfOk r (λ steps. log_of new ≡ log_of old ++ answered_events old (drain_lines k steps))
@@ -199,21 +184,6 @@ module _ {P : Type 0} (seen : BoardView P → WorldView) (alone : (v w : BoardVi
   by None is (Ok answer) meets = (subst IsMade meets.0 is.0, λ same. is.1 (sym meets.1 ∙ alone new old same))
   by None is (Err e) (same, inl refused) = absurd (subst IsMade refused.0 is.0)
   by None is (Err e) (same, inr grown) = (grown.0, ap seen same)
-
--- a world of one flavour is seen as one world
-abbrev memb_or : BoardView MembPlan → WorldView → BoardView MembPlan
-memb_or other (OfMemb w) = w
-memb_or other (OfQsbr w) = other
-
-abbrev qsbr_or : BoardView QsbrPlan → WorldView → BoardView QsbrPlan
-qsbr_or other (OfMemb w) = other
-qsbr_or other (OfQsbr w) = w
-
-pub memb_alone : (v w : BoardView MembPlan) → OfMemb v ≡ OfMemb w → v ≡ w
-memb_alone v w same = ap (λ x. memb_or v x) same
-
-pub qsbr_alone : (v w : BoardView QsbrPlan) → OfQsbr v ≡ OfQsbr w → v ≡ w
-qsbr_alone v w same = ap (λ x. qsbr_or v x) same
 
 pub meets_tests : {P : Type 0} (plans : Plans P) (seen : BoardView P → WorldView) → ((v w : BoardView P) → seen v ≡ seen w → v ≡ w) → (old new : BoardView P) (line : Line) → IsTested plans old line →
     (result : Result Answer Refusal) → Meets (outcome_of plans old line) old new result → MeetsTests (first_failing (line_tests plans old line)) (seen old) (seen new) result

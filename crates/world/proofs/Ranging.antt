@@ -1,39 +1,21 @@
 -- The numbers of a kept world are small enough for its next step, and a line asks no more of a queue than it has.
-use Rattle.world.proofs.Cited.{◌≡◌, ◌^◌, ◌<◌, ℕ, true≢false, false, length, slice_get, Option, Some, None, Ok, refl, ap, ◌∙◌, subst, arith, get_or_from_slice_get, ObjectId, State, SyncCore, Tickets, WorkerCore, Line, QueueAct, QueueState, RetireStep, UpdaterPlace, Retires, UpdaterState, WorkerState, Change, new_worker, empty_queue_state, MayAct, MayActAt, Plans, BoardView, idle, queue_at, MayMake, ◌+◌, ◌-◌, ◌%◌, ◌≤◌, Bool, true, List, [], ◌∷◌, sym, slice_get_within, slice_get-get_or, Layout, Item, Ticket, given_of, object_with, step_of, ReaderState, Barrier, Note, Check, Bars, new_reader, IsRun, after_all, start, Config, is_within_limits, fresh_at}
-use Rattle.world_state.specs.declared.queue.QueueAct.TheVariants as act
-use Rattle.world_state.specs.declared.updater.Holder.TheVariants as holder
-use Rattle.world_state.specs.declared.updater.RetireStep.TheVariants as due
-use Rattle.world_state.specs.declared.change.Change.TheVariants.{Retire, Work as Works}
-use Rattle.world.specs.declared.grace.GraceStep.{GraceStep}
-use Rattle.world.specs.Grace.{action_effect, is_blocked, grace_row}
-use Rattle.world.specs.Lines.{change_of, world_after}
-use Rattle.world.specs.Queues.{queue_of, retire_on}
-use Rattle.world.specs.Workers.{ask_for, work_change, first_in}
-use Rattle.world.proofs.GraceRows.{TurnRow, Asking, Blocking, Finding, Ending, turn_of}
-use Rattle.world.proofs.Rows.{WasAt, WorkedAt, WorkerRows, IsUpdate, any_updates, Each, Law, by_law}
+use Rattle.world.proofs.Cited.{◌≡◌, ◌^◌, ◌<◌, ℕ, true≢false, false, length, slice_get, Some, Ok, refl, ap, ◌∙◌, subst, arith, get_or_from_slice_get, ObjectId, State, SyncCore, Tickets, WorkerCore, Line, QueueAct, QueueState, RetireStep, UpdaterPlace, Retires, UpdaterState, WorkerState, Change, new_worker, empty_queue_state, MayAct, MayActAt, Plans, BoardView, queue_at, MayMake, ◌+◌, ◌-◌, ◌%◌, ◌≤◌, Bool, true, List, [], ◌∷◌, sym, slice_get_within, slice_get-get_or, Layout, Item, Ticket, given_of, object_with, step_of, ReaderState, Barrier, Note, Check, Bars, new_reader, IsRun, Config, is_within_limits, fresh_at, Holder, GraceStep, action_effect, is_blocked, change_of, world_after, queue_of, retire_on, ask_for, work_change, first_in, CanStart, LoadsNoGroup, IsAtQueue, IsInRange, IsReached}
+use Rattle.world.proofs.Rows.{by_option, TurnRow, Asking, Blocking, Finding, Ending, turn_of, WasAt, WorkedAt, WorkerRows, IsUpdate, any_updates, Each, Law, by_law}
 use Rattle.world.proofs.Callbacks.{Callbacks, RetireKept, BatchKept, WorkKept, IsAt, BarKept, WorkAt}
-use Rattle.call_rcu_worker.specs.declared.sync.SyncCore.TheVariants as core
-use Rattle.call_rcu_worker.specs.declared.worker.WorkerCore.TheVariants as worker
 use Rattle.call_rcu_worker.specs.Worker.{next_of}
-use Rattle.world.specs.Shown.{CanStart, LoadsNoGroup, IsAtQueue, IsInRange}
 use Rattle.world.proofs.Fence.{Work, Starts, Pending, Holds, Laws, even_at, runs_no_group}
-use Rattle.world.proofs.State.{Asker, Syncing, Working, decide_asker, core_work, place_work, worker_work, work_of, holder_of, Kept}
-use Rattle.world.specs.Reached.{IsReached}
+use Rattle.world.proofs.State.{Asker, Syncing, Working, core_work, place_work, work_of, Kept, stands_at, works_at}
 use Rattle.world.proofs.Logged.{logged}
 
 module _ {P : Type 0} (plans : Plans P) (w : BoardView P) (now : State) (k : Callbacks w now) (small : length w.log < 2 ^ 63) where
   may_act : (a : QueueAct) (j : ℕ) → MayAct a (queue_at w.queues j) → MayActAt a (slice_get w.queues j)
-  may_act a j h = by (slice_get w.queues j) refl
-    where
-      by : (q : Option QueueState) → slice_get w.queues j ≡ q → MayActAt a q
-      by None e = tt
-      by (Some q) e = subst (MayAct a) (get_or_from_slice_get w.queues j q empty_queue_state e) h
+  may_act a j h = by_option (MayActAt a) (slice_get w.queues j) (λ e. tt) (λ q e. subst (MayAct a) (get_or_from_slice_get w.queues j q empty_queue_state e) h)
 
   makes_retire : (u : ℕ) (x : UpdaterState P) (o : ObjectId) (step : RetireStep) → RetireKept {P = P} w.objects w.queues (length w.updaters) u (Retires o step) → MayMake w (retire_on w u x o step)
-  makes_retire u x o due.Mark h = may_act act.Leave (queue_of w u) tt
-  makes_retire u x o due.Count h = may_act act.Count (queue_of w u) (let low = (k.queues (queue_of w u)).given_low in let same = h.1.3 in omega (arith, low, same, small))
-  makes_retire u x o due.Push h = may_act (act.Push o) (queue_of w u) ((k.queues (queue_of w u)).is_open, h.1.2, let low = (k.queues (queue_of w u)).given_low in omega (arith, low, small))
-  makes_retire u x o due.Free h = may_act act.Free (queue_of w u) tt
+  makes_retire u x o RetireStep.Mark h = may_act QueueAct.Leave (queue_of w u) tt
+  makes_retire u x o RetireStep.Count h = may_act QueueAct.Count (queue_of w u) (let low = (k.queues (queue_of w u)).given_low in let same = h.1.3 in omega (arith, low, same, small))
+  makes_retire u x o RetireStep.Push h = may_act (QueueAct.Push o) (queue_of w u) ((k.queues (queue_of w u)).is_open, h.1.2, let low = (k.queues (queue_of w u)).given_low in omega (arith, low, small))
+  makes_retire u x o RetireStep.Free h = may_act QueueAct.Free (queue_of w u) tt
 
   module _ (n : ℕ) (x : WorkerState P) where
     abbrev mine : QueueState
@@ -42,22 +24,16 @@ module _ {P : Type 0} (plans : Plans P) (w : BoardView P) (now : State) (k : Cal
     abbrev WorksAt : WorkerCore P Unit → Type 0
     WorksAt place = WorkKept mine.items.ready mine.items.waiting mine.items.cookie mine.items.gone mine.finished now.asked now.awaited now.asked_sections x.ask place
 
-    abbrev Batch : Tickets → SyncCore P → Type 0
-    Batch tickets sync = BatchKept mine.items.ready mine.items.waiting mine.items.cookie now.asked now.awaited now.asked_sections x.ask tickets.left sync
-
     -- what the queue is told of a grace period
     abbrev MayTell : ℕ → Tickets → SyncCore P → GraceStep P → Type 0
-    MayTell ask tickets sync step = Batch tickets sync → is_blocked step.answer ≡ false → MayMake w (work_change n ask tickets step)
+    MayTell ask tickets sync step = BatchKept mine.items.ready mine.items.waiting mine.items.cookie now.asked now.awaited now.asked_sections x.ask tickets.left sync → is_blocked step.answer ≡ false → MayMake w (work_change n ask tickets step)
 
-    makes_row : (ask : ℕ) (tickets : Tickets) (sync : SyncCore P) (step : GraceStep P) → TurnRow plans w (holder.Worker n) ask sync (Ok step) → MayTell ask tickets sync step
-    makes_row ask tickets _ _ (Asking c is) h made = may_act (act.Note c) n (let same = h.1 in let some = h.2 in omega (arith, same, some))
+    makes_row : (ask : ℕ) (tickets : Tickets) (sync : SyncCore P) (step : GraceStep P) → TurnRow plans w (Holder.Worker n) ask sync (Ok step) → MayTell ask tickets sync step
+    makes_row ask tickets _ _ (Asking c is) h made = may_act (QueueAct.Note c) n (let same = h.1 in let some = h.2 in omega (arith, same, some))
     makes_row ask tickets _ _ (Blocking c other held) h made = absurd (true≢false made)
-    makes_row ask tickets _ _ (Finding c up) h made = may_act (act.Advance w.grace.seq) n tt
-    makes_row ask tickets _ _ (Ending from c p at done) h made = may_act (act.Advance (action_effect w (plans.action p)).grace.seq) n tt
-    makes_row ask tickets _ _ _ h made = may_act act.Leave n tt
-
-    makes_turn : (ask : ℕ) (tickets : Tickets) (sync : SyncCore P) (step : GraceStep P) → grace_row plans w (holder.Worker n) ask sync ≡ Ok step → MayTell ask tickets sync step
-    makes_turn ask tickets sync step is = makes_row ask tickets sync step (turn_of plans w (holder.Worker n) ask sync step is)
+    makes_row ask tickets _ _ (Finding c up) h made = may_act (QueueAct.Advance w.grace.seq) n tt
+    makes_row ask tickets _ _ (Ending from c p at done) h made = may_act (QueueAct.Advance (action_effect w (plans.action p)).grace.seq) n tt
+    makes_row ask tickets _ _ _ h made = may_act QueueAct.Leave n tt
 
     its_work : {core : WorkerCore P Unit} → WorkedAt plans w n x core → WorksAt core
     its_work at = subst (λ (p : WorkerCore P Unit). WorksAt p) at.at
@@ -65,19 +41,19 @@ module _ {P : Type 0} (plans : Plans P) (w : BoardView P) (now : State) (k : Cal
 
     works : WorkerRows plans w n x (λ v. MayMake w)
     works = record {
-      takes = λ q at is free some. let rests = its_work at in may_act act.Seal n (rests.0, rests.1);
-      works = λ sync tickets step at is goes on. makes_turn (ask_for w x.ask sync) tickets sync step is (its_work at).0 goes;
-      runs = λ tickets first at is. may_act act.Pop n tt;
-      counts = λ tickets ticket item at. may_act act.Finish n (let low = (k.queues n).given_low in let gone = (its_work at).2 in omega (arith, low, gone, small));
+      takes = λ q at is free some. let rests = its_work at in may_act QueueAct.Seal n (rests.0, rests.1);
+      works = λ sync tickets step at is goes on. makes_row (ask_for w x.ask sync) tickets sync step (turn_of plans w (Holder.Worker n) (ask_for w x.ask sync) sync step is) (its_work at).0 goes;
+      runs = λ tickets first at is. may_act QueueAct.Pop n tt;
+      counts = λ tickets ticket item at. may_act QueueAct.Finish n (let low = (k.queues n).given_low in let gone = (its_work at).2 in omega (arith, low, gone, small));
     }
 
   retiring : (u : ℕ) (x : UpdaterState P) (o : ObjectId) (step : RetireStep) → WasAt plans w u x (Retires o step) → MayMake w (retire_on w u x o step)
   retiring u x o step at = makes_retire u x o step
-      (subst (λ (p : UpdaterPlace P). RetireKept w.objects w.queues (length w.updaters) u p) (ap (λ (y : UpdaterState P). y.place) (get_or_from_slice_get w.updaters u x idle at.was) ∙ at.at) (k.retiring u))
+      (subst (λ (p : UpdaterPlace P). RetireKept w.objects w.queues (length w.updaters) u p) (stands_at w.updaters u x at.was at.at) (k.retiring u))
 
   update_makes : (change : Change P) → IsUpdate change → MayMake w change
-  update_makes (Retire u x q act mark answer) is = absurd is
-  update_makes (Works k x grace act mark answer) is = absurd is
+  update_makes (Change.Retire u x q act mark answer) is = absurd is
+  update_makes (Change.Work k x grace act mark answer) is = absurd is
   update_makes _ is = tt
 
   law : Law plans w (λ line. MayMake w)
@@ -93,14 +69,13 @@ module _ {P : Type 0} (plans : Plans P) (w : BoardView P) (now : State) (k : Cal
 
 -- ---- the numbers of a kept world are small enough for its next step
 
-module _ {P : Type 0} (plans : Plans P) (layout : Layout) (slots : ℕ) (laws : Laws plans layout slots) (w : BoardView P) (now : State) (k : Kept plans layout slots laws w now) (callbacks : Callbacks w now) where
+module _ {P : Type 0} {plans : Plans P} {layout : Layout} {slots : ℕ} {laws : Laws plans layout slots} {w : BoardView P} {now : State} (k : Kept plans layout slots laws w now) (callbacks : Callbacks w now) where
   -- whoever makes a plan, finds numbers that a plan can begin with
   can_start : (x : Asker) (ask cookie : ℕ) → work_of w.updaters w.workers x ≡ Starts ask cookie → CanStart w.grace
   can_start x ask cookie is = record { even = even; seq = seq; word = word plans.qsbr refl }
     where
       even : w.grace.seq % 2 ≡ 0
-      even = even_at plans layout slots laws decide_asker (holder_of w.grace.holder) (work_of w.updaters w.workers) w.grace.seq w.grace.word x k.part.grace_kept
-          (subst (λ (v : Work P). Holds v) (sym is) tt) (λ a c p e. cc (sym is ∙ e))
+      even = even_at k.part.grace_kept x (subst (λ (v : Work P). Holds v) (sym is) tt) (λ a c p e. cc (sym is ∙ e))
 
       seq : w.grace.seq ≤ 2 ^ 62
       seq =
@@ -115,16 +90,16 @@ module _ {P : Type 0} (plans : Plans P) (layout : Layout) (slots : ℕ) (laws : 
   at_queue : (u : ℕ) (x : UpdaterState P) (b : Barrier) → slice_get w.updaters u ≡ Some x → x.place ≡ Bars b → IsAtQueue w b.due
   at_queue u x b is place =
       let kept = subst (λ (p : UpdaterPlace P). BarKept w.queues now.noted now.cleared now.noted_objects p)
-      (ap (λ (y : UpdaterState P). y.place) (get_or_from_slice_get w.updaters u x idle is) ∙ place) (callbacks.barring u) in
+      (stands_at w.updaters u x is place) (callbacks.barring u) in
       (elim b.due as (λ step. IsAt step (length w.queues) → IsAtQueue w step) [ Note q ↦ λ h. h | Check q ↦ λ h. h ]) kept.3
 
   -- a plan that runs loads no group word
   no_group : (x : Asker) (ask : ℕ) (core : SyncCore P) → work_of w.updaters w.workers x ≡ core_work ask core → LoadsNoGroup (step_of plans.action core)
-  no_group x ask (core.Runs c p) is group e = runs_no_group plans layout slots laws w.grace.seq w.grace.word c p (k.part.grace_kept.running x ask c p is) group (cc (e))
+  no_group x ask (SyncCore.Runs c p) is group e = runs_no_group (k.part.grace_kept.running x ask c p is) group (cc (e))
   no_group x ask _ is group e = cc
 
   -- the first ready item has the ticket that its worker waits for
-  at_first : (n : ℕ) (x : WorkerState P) (tickets : Tickets) (first : Ticket × ObjectId) → slice_get w.workers n ≡ Some x → x.core ≡ worker.Pops tickets → first_in (slice_get w.queues n) ≡ Some first → first.0 ≡ next_of tickets
+  at_first : (n : ℕ) (x : WorkerState P) (tickets : Tickets) (first : Ticket × ObjectId) → slice_get w.workers n ≡ Some x → x.core ≡ WorkerCore.Pops tickets → first_in (slice_get w.queues n) ≡ Some first → first.0 ≡ next_of tickets
   at_first n x tickets first is pops found = by mine.items.ready refl (sym (ap first_in (slice_get-get_or w.queues n empty_queue_state (subst (λ m. n < m) callbacks.sizes.manned (slice_get_within w.workers n x is)))) ∙ found)
     where
       mine : QueueState
@@ -155,10 +130,10 @@ module _ {P : Type 0} (plans : Plans P) (layout : Layout) (slots : ℕ) (laws : 
         omega (arith, l, n, k.seq_low);
     asks = k.asks_low;
     barriers = callbacks.numbers.barriers_low;
-    starts = λ u x ask cookie is place. can_start (Syncing u) ask cookie (ap (λ (y : UpdaterState P). place_work y.place) (get_or_from_slice_get w.updaters u x idle is) ∙ ap place_work place);
-    worker_starts = λ n x cookie tickets is core. can_start (Working n) x.ask cookie (ap (λ (y : WorkerState P). worker_work y.ask y.core) (get_or_from_slice_get w.workers n x new_worker is) ∙ ap (worker_work x.ask) core);
-    plans_run = λ u x ask core is place. no_group (Syncing u) ask core (ap (λ (y : UpdaterState P). place_work y.place) (get_or_from_slice_get w.updaters u x idle is) ∙ ap place_work place);
-    worker_plans_run = λ n x core tickets is at. no_group (Working n) x.ask core (ap (λ (y : WorkerState P). worker_work y.ask y.core) (get_or_from_slice_get w.workers n x new_worker is) ∙ ap (worker_work x.ask) at);
+    starts = λ u x ask cookie is place. can_start (Syncing u) ask cookie (ap place_work (stands_at w.updaters u x is place));
+    worker_starts = λ n x cookie tickets is core. can_start (Working n) x.ask cookie (works_at w.workers n x is core);
+    plans_run = λ u x ask core is place. no_group (Syncing u) ask core (ap place_work (stands_at w.updaters u x is place));
+    worker_plans_run = λ n x core tickets is at. no_group (Working n) x.ask core (works_at w.workers n x is at);
     given = λ n q is. subst (λ (r : QueueState). given_of r.items ≤ length w.log) (get_or_from_slice_get w.queues n q empty_queue_state is) (callbacks.queues n).given_low;
     pops = at_first;
     bars = at_queue;
@@ -174,6 +149,4 @@ module _ {P : Type 0} (plans : Plans P) (laws : (layout : Layout) (slots : ℕ) 
   pub ranges : (w : BoardView P) → IsReached plans w → IsInRange plans w
   ranges w r =
       let l = logged plans laws r.config r.seq r.limits r.even r.low r.lines in
-      subst (λ (v : BoardView P). IsInRange plans v) r.leads
-      (in_range plans r.config.layout r.config.readers (laws r.config.layout r.config.readers) (world_after plans (fresh_at r.config r.seq) r.lines)
-      (after_all start (world_after plans (fresh_at r.config r.seq) r.lines).log) l.kept l.callbacks)
+      subst (λ (v : BoardView P). IsInRange plans v) r.leads (in_range l.kept l.callbacks)

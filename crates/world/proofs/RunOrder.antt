@@ -1,38 +1,26 @@
 -- The callbacks of each queue run in the order in which they were queued.
-use Rattle.world.proofs.Cited.{◌≡◌, ◌≢◌, ◌⊎◌, ⊎_elim, ℕ, inl, inr, ◌+◌, ◌%◌, ◌^◌, ◌<◌, ◌≤◌, true, List, [], ◌∷◌, ◌++◌, length, slice_get, Some, None, Ok, refl, sym, ap, ◌∙◌, subst, cons_option, filter_map, get_or_from_slice_get, slice_get-get_or, Event, ObjectId, State, start, after, after_all, has_object, In, in_append, filter_has, runs_of, NoTurn, InTurn, quiet_turn, queued_turn, queued_elsewhere, run_turn, run_elsewhere, Item, Ticket, items_of, without_first, object_with, Layout, SyncCore, Tickets, WorkerCore, new_core, Config, Line, Life, QueueAct, QueueState, Holder, RetireStep, UpdaterPlace, Retires, UpdaterState, WorkerState, Change, is_within_limits, empty_queue_state, item_of, acted, held_by, changed_at, acted_at, Plans, BoardView, fresh_at, changed, idle, told, decide_number, life_of, Items, Has, InQueue, has_stands, queue_at, changed_here, changed_else, items_sealed, items_advanced, items_pushed, queued_by, run_by, queued_into, run_from}
-use Rattle.rcu_model.specs.declared.event.Event.TheVariants as events
-use Rattle.call_rcu_worker.specs.declared.sync.SyncCore.TheVariants as core
-use Rattle.call_rcu_worker.specs.declared.worker.WorkerCore.TheVariants as worker
+use Rattle.world.proofs.Cited.{◌≡◌, ◌≢◌, ◌⊎◌, ⊎_elim, ℕ, inl, inr, ◌+◌, ◌%◌, ◌^◌, ◌<◌, ◌≤◌, true, List, [], ◌∷◌, ◌++◌, length, slice_get, Some, None, Ok, refl, sym, ap, ◌∙◌, subst, cons_option, filter_map, slice_get-get_or, Event, ObjectId, State, start, after, after_all, has_object, In, in_append, filter_has, runs_of, NoTurn, InTurn, quiet_turn, queued_turn, queued_elsewhere, run_turn, run_elsewhere, Item, Ticket, items_of, without_first, object_with, Layout, SyncCore, Tickets, WorkerCore, new_core, Config, Line, Life, QueueAct, QueueState, Holder, RetireStep, UpdaterPlace, Retires, UpdaterState, WorkerState, Change, is_within_limits, empty_queue_state, item_of, acted, held_by, changed_at, acted_at, Plans, BoardView, fresh_at, changed, told, decide_number, life_of, Items, Has, InQueue, has_stands, queue_at, changed_here, changed_else, items_sealed, items_advanced, items_pushed, queued_by, run_by, queued_into, run_from, GraceStep, world_after, queue_of, retire_on, ask_for, worker_act, first_in, grace_row}
+use Rattle.world.proofs.State.{stands_at}
 use Rattle.call_rcu_worker.specs.Worker.{synced as synced_to}
-use Rattle.world_state.specs.declared.object.Life.TheVariants as life
-use Rattle.world_state.specs.declared.queue.QueueAct.TheVariants as act
-use Rattle.world_state.specs.declared.updater.Holder.TheVariants as holder
-use Rattle.world_state.specs.declared.updater.RetireStep.TheVariants as due
-use Rattle.world.specs.declared.grace.GraceStep.{GraceStep}
-use Rattle.world.specs.Lines.{world_after}
-use Rattle.world.specs.Queues.{queue_of, retire_on}
 use Rattle.world.specs.RunOrder.{RunInOrder}
-use Rattle.world.specs.Workers.{ask_for, worker_act, first_in}
 use Rattle.world.proofs.Moving.{work_now}
-use Rattle.world.proofs.Callbacks.{own_queue, its_queue, IsOther, LifeKept, RetireKept, at_queues, AreOther, other_reads}
+use Rattle.world.proofs.Callbacks.{lives_as, own_queue, its_queue, IsOther, RetireKept, at_queues, AreOther, other_reads}
 use Rattle.world.proofs.Fence.{Laws}
-use Rattle.world.specs.Grace.{grace_row}
-use Rattle.world.proofs.GraceRows.{tells}
+use Rattle.world.proofs.Rows.{tells, ByPush, ByReplace, BySync, ByTurn, ByHold, ByRetire, UpdaterRows, WasAt, WorkedAt, Law}
 use Rattle.world.proofs.Logged.{get_replicate, Logged, always}
-use Rattle.world.proofs.Rows.{ByPush, ByReplace, BySync, ByTurn, ByHold, ByRetire, UpdaterRows, WasAt, WorkedAt, Law}
 
 -- ---- the log
 
 -- what ran is reclaimed
 stays_reclaimed : (now : State) (e : Event) (o : ObjectId) → In now.reclaimed o → In (after now e).reclaimed o
-stays_reclaimed now (events.Run p) o h = inr h
-stays_reclaimed now (events.First s c None) o h = h
-stays_reclaimed now (events.Next s p None) o h = h
+stays_reclaimed now (Event.Run p) o h = inr h
+stays_reclaimed now (Event.First s c None) o h = h
+stays_reclaimed now (Event.Next s p None) o h = h
 stays_reclaimed now _ o h = h
 
 one_reclaimed : (now : State) (e : Event) (es : List Event) (o : ObjectId) → In (runs_of (e ∷ es)) o → In (after now e).reclaimed o ⊎ In (runs_of es) o
-one_reclaimed now (events.Run p) es o (inl is) = inl (inl is)
-one_reclaimed now (events.Run p) es o (inr h) = inr h
+one_reclaimed now (Event.Run p) es o (inl is) = inl (inl is)
+one_reclaimed now (Event.Run p) es o (inr h) = inr h
 one_reclaimed now _ es o h = inr h
 
 all_reclaimed : (now : State) (es : List Event) (o : ObjectId) → In now.reclaimed o ⊎ In (runs_of es) o → In (after_all now es).reclaimed o
@@ -42,11 +30,11 @@ all_reclaimed now (e ∷ es) o (inl h) = all_reclaimed (after now e) es o (inl (
 all_reclaimed now (e ∷ es) o (inr h) = all_reclaimed (after now e) es o (one_reclaimed now e es o h)
 
 other_runs : (e : Event) → IsOther e → (run_by e ≡ None) × ((q : ℕ) → queued_by q e ≡ None)
-other_runs (events.Retire o) h = absurd h
-other_runs (events.Queue o q) h = absurd h
-other_runs (events.Run o) h = absurd h
-other_runs (events.Bar b) h = absurd h
-other_runs (events.Clear b) h = absurd h
+other_runs (Event.Retire o) h = absurd h
+other_runs (Event.Queue o q) h = absurd h
+other_runs (Event.Run o) h = absurd h
+other_runs (Event.Bar b) h = absurd h
+other_runs (Event.Clear b) h = absurd h
 other_runs _ h = (refl, λ q. refl)
 
 others_run : (es : List Event) → AreOther es → NoTurn es
@@ -90,18 +78,18 @@ quiet log qs qs' es none stay k q = waits q (log ++ es) _ _ (stay q) (quiet_turn
 
 -- one is queued that did not run
 queues_one : (log : List Event) (qs qs' : List QueueState) (j : ℕ) (o : ObjectId) → (¬ In (runs_of log) o) → waiting_in (queue_at qs' j) ≡ waiting_in (queue_at qs j) ++ o ∷ [] →
-    ((q : ℕ) → q ≢ j → waiting_in (queue_at qs' q) ≡ waiting_in (queue_at qs q)) → AllInTurn log qs → AllInTurn (log ++ events.Queue o j ∷ []) qs'
+    ((q : ℕ) → q ≢ j → waiting_in (queue_at qs' q) ≡ waiting_in (queue_at qs q)) → AllInTurn log qs → AllInTurn (log ++ Event.Queue o j ∷ []) qs'
 queues_one log qs qs' j o fresh here beside k q = ⊎_elim
-    (λ (e : q ≡ j). subst (λ n. InTurn n (log ++ events.Queue o j ∷ []) (waiting_in (queue_at qs' n))) (sym e) (waits j (log ++ events.Queue o j ∷ []) _ _ here (queued_turn j log _ o fresh (k j))))
-    (λ (apart : q ≢ j). waits q (log ++ events.Queue o j ∷ []) _ _ (beside q apart) (queued_elsewhere j q log _ o apart (k q)))
+    (λ (e : q ≡ j). subst (λ n. InTurn n (log ++ Event.Queue o j ∷ []) (waiting_in (queue_at qs' n))) (sym e) (waits j (log ++ Event.Queue o j ∷ []) _ _ here (queued_turn j log _ o fresh (k j))))
+    (λ (apart : q ≢ j). waits q (log ++ Event.Queue o j ∷ []) _ _ (beside q apart) (queued_elsewhere j q log _ o apart (k q)))
     (decide_number q j)
 
 -- the first of a queue runs, which waits in no other and did not run
 runs_first : (log : List Event) (qs qs' : List QueueState) (j : ℕ) (o : ObjectId) → (¬ In (runs_of log) o) → waiting_in (queue_at qs j) ≡ o ∷ waiting_in (queue_at qs' j) →
-    ((q : ℕ) → q ≢ j → (waiting_in (queue_at qs' q) ≡ waiting_in (queue_at qs q)) × (¬ In (waiting_in (queue_at qs q)) o)) → AllInTurn log qs → AllInTurn (log ++ events.Run o ∷ []) qs'
+    ((q : ℕ) → q ≢ j → (waiting_in (queue_at qs' q) ≡ waiting_in (queue_at qs q)) × (¬ In (waiting_in (queue_at qs q)) o)) → AllInTurn log qs → AllInTurn (log ++ Event.Run o ∷ []) qs'
 runs_first log qs qs' j o fresh first beside k q = ⊎_elim
-    (λ (e : q ≡ j). subst (λ n. InTurn n (log ++ events.Run o ∷ []) (waiting_in (queue_at qs' n))) (sym e) (run_turn j log _ o (subst (InTurn j log) first (k j))))
-    (λ (apart : q ≢ j). waits q (log ++ events.Run o ∷ []) _ _ ((beside q apart).0) (run_elsewhere q log _ o (none apart) (k q)))
+    (λ (e : q ≡ j). subst (λ n. InTurn n (log ++ Event.Run o ∷ []) (waiting_in (queue_at qs' n))) (sym e) (run_turn j log _ o (subst (InTurn j log) first (k j))))
+    (λ (apart : q ≢ j). waits q (log ++ Event.Run o ∷ []) _ _ ((beside q apart).0) (run_elsewhere q log _ o (none apart) (k q)))
     (decide_number q j)
   where
     none : q ≢ j → ¬ In (queued_into q log) o
@@ -116,13 +104,10 @@ waits_same : (f : QueueState → QueueState) (qs : List QueueState) (j : ℕ) �
 waits_same f qs j inside same = at_queues (λ q x. waiting_in x ≡ waiting_in (queue_at qs q)) f qs j inside (ap objects_of same) (λ q apart. refl)
 
 -- the acts of a grace period leave the items where they are
-abbrev KeepsItems : QueueAct → Type 0
-KeepsItems act = (q : QueueState) → items_of (acted act q).items ≡ items_of q.items
-
-worker_keeps : {P : Type 0} (seq : ℕ) (core : WorkerCore P Unit) → KeepsItems (worker_act seq core)
-worker_keeps seq (worker.Syncs core.Frees tickets) = λ q. items_advanced q.items seq
-worker_keeps seq (worker.Syncs _ tickets) = λ q. refl
-worker_keeps seq _ = λ q. refl
+worker_keeps : {P : Type 0} (seq : ℕ) (core : WorkerCore P Unit) (q : QueueState) → items_of (acted (worker_act seq core) q).items ≡ items_of q.items
+worker_keeps seq (WorkerCore.Syncs SyncCore.Frees tickets) q = items_advanced q.items seq
+worker_keeps seq (WorkerCore.Syncs _ tickets) q = refl
+worker_keeps seq _ q = refl
 
 abbrev IsInTurn : {P : Type 0} → BoardView P → Type 0
 IsInTurn w = AllInTurn w.log w.queues
@@ -155,24 +140,22 @@ module _ {P : Type 0} (plans : Plans P) (layout : Layout) (slots : ℕ) (laws : 
   leaves es no_turn = quiet w.log w.queues w.queues es no_turn (λ q. refl)
 
   turn_retire : (u : ℕ) (x : UpdaterState P) (o : ObjectId) (step : RetireStep) → WasAt plans w u x (Retires o step) → StaysInTurn w (retire_on w u x o step)
-  turn_retire u x o due.Mark at = quiet w.log w.queues _ _ (record { runs = refl; queues = λ q. refl }) (waits_same (acted act.Leave) w.queues (queue_of w u) (own_queue u l.callbacks.sizes) refl)
-  turn_retire u x o due.Count at = quiet w.log w.queues _ _ none (waits_same (acted act.Count) w.queues (queue_of w u) (own_queue u l.callbacks.sizes) refl)
-  turn_retire u x o due.Free at = quiet w.log w.queues _ _ none (waits_same (acted act.Free) w.queues (queue_of w u) (own_queue u l.callbacks.sizes) refl)
-  turn_retire u x o due.Push at =
-      queues_one w.log w.queues (acted_at w.queues j (act.Push o)) j o (not_yet o (subst (λ (y : Life). LifeKept y o now.retired now.queued now.reclaimed) retired (l.callbacks.items.lives o)).2)
-      (ap waiting_in (changed_here (acted (act.Push o)) w.queues j (own_queue u l.callbacks.sizes)) ∙ ap objects_of (items_pushed (mine j).items (item_of o)) ∙ objects_more (items_of (mine j).items) (item_of o))
-      (λ q apart. ap waiting_in (changed_else (acted (act.Push o)) w.queues j q apart))
+  turn_retire u x o RetireStep.Mark at = quiet w.log w.queues _ _ (record { runs = refl; queues = λ q. refl }) (waits_same (acted QueueAct.Leave) w.queues (queue_of w u) (own_queue u l.callbacks.sizes) refl)
+  turn_retire u x o RetireStep.Count at = quiet w.log w.queues _ _ none (waits_same (acted QueueAct.Count) w.queues (queue_of w u) (own_queue u l.callbacks.sizes) refl)
+  turn_retire u x o RetireStep.Free at = quiet w.log w.queues _ _ none (waits_same (acted QueueAct.Free) w.queues (queue_of w u) (own_queue u l.callbacks.sizes) refl)
+  turn_retire u x o RetireStep.Push at =
+      let j : ℕ = queue_of w u in
+      queues_one w.log w.queues (acted_at w.queues j (QueueAct.Push o)) j o (not_yet o (lives_as l.callbacks.items o retired).2)
+      (ap waiting_in (changed_here (acted (QueueAct.Push o)) w.queues j (own_queue u l.callbacks.sizes)) ∙ ap objects_of (items_pushed (mine j).items (item_of o)) ∙ objects_more (items_of (mine j).items) (item_of o))
+      (λ q apart. ap waiting_in (changed_else (acted (QueueAct.Push o)) w.queues j q apart))
     where
-      j : ℕ
-      j = queue_of w u
-
-      retired : life_of w.objects o ≡ life.Retired
+      retired : life_of w.objects o ≡ Life.Retired
       retired =
           (subst (λ (p : UpdaterPlace P). RetireKept w.objects w.queues (length w.updaters) u p)
-          (ap (λ (y : UpdaterState P). y.place) (get_or_from_slice_get w.updaters u x idle at.was) ∙ at.at) (l.callbacks.retiring u)).1.0
+          (stands_at w.updaters u x at.was at.at) (l.callbacks.retiring u)).1.0
 
-  turn_run : (k : ℕ) (x : WorkerState P) (tickets : Tickets) (first : Ticket × ObjectId) → WorkedAt plans w k x (worker.Pops tickets) → first_in (slice_get w.queues k) ≡ Some first →
-      AllInTurn w.log w.queues → AllInTurn (w.log ++ events.Run first.1 ∷ []) (acted_at w.queues k act.Pop)
+  turn_run : (k : ℕ) (x : WorkerState P) (tickets : Tickets) (first : Ticket × ObjectId) → WorkedAt plans w k x (WorkerCore.Pops tickets) → first_in (slice_get w.queues k) ≡ Some first →
+      AllInTurn w.log w.queues → AllInTurn (w.log ++ Event.Run first.1 ∷ []) (acted_at w.queues k QueueAct.Pop)
   turn_run k x tickets first at is = by (mine k).items.ready refl (sym (ap first_in (slice_get-get_or w.queues k empty_queue_state inside)) ∙ is)
     where
       inside : k < length w.queues
@@ -185,12 +168,12 @@ module _ {P : Type 0} (plans : Plans P) (layout : Layout) (slots : ℕ) (laws : 
       second y z e = ap (λ (v : Ticket × ObjectId). v.1) (let same : y ≡ z = cc in same)
 
       by : (ready : Items) → (mine k).items.ready ≡ ready → object_with ((mine k).items.gone + 1) ready ≡ Some first →
-          AllInTurn w.log w.queues → AllInTurn (w.log ++ events.Run o ∷ []) (acted_at w.queues k act.Pop)
+          AllInTurn w.log w.queues → AllInTurn (w.log ++ Event.Run o ∷ []) (acted_at w.queues k QueueAct.Pop)
       by [] e none_first = cc
-      by (i ∷ rest) e here = runs_first w.log w.queues (acted_at w.queues k act.Pop) k o
-          (not_yet o (subst (λ (y : Life). LifeKept y o now.retired now.queued now.reclaimed) (queued k (subst (λ os. In os o) (sym was) (inl refl))) (l.callbacks.items.lives o)).2)
-          (was ∙ ap (λ os. o ∷ os) (sym (ap waiting_in (changed_here (acted act.Pop) w.queues k inside) ∙ ap (λ (r : Items). objects_of (items_of (without_first (mine k).items r))) e)))
-          (λ q apart. (ap waiting_in (changed_else (acted act.Pop) w.queues k q apart), λ h. apart (one_queue q h)))
+      by (i ∷ rest) e here = runs_first w.log w.queues (acted_at w.queues k QueueAct.Pop) k o
+          (not_yet o (lives_as l.callbacks.items o (queued k (subst (λ os. In os o) (sym was) (inl refl)))).2)
+          (was ∙ ap (λ os. o ∷ os) (sym (ap waiting_in (changed_here (acted QueueAct.Pop) w.queues k inside) ∙ ap (λ (r : Items). objects_of (items_of (without_first (mine k).items r))) e)))
+          (λ q apart. (ap waiting_in (changed_else (acted QueueAct.Pop) w.queues k q apart), λ h. apart (one_queue q h)))
         where
           tail : Items
           tail = rest ++ (mine k).items.waiting ++ (mine k).items.fresh
@@ -201,7 +184,7 @@ module _ {P : Type 0} (plans : Plans P) (layout : Layout) (slots : ℕ) (laws : 
           there : (q : ℕ) → In (waiting_in (mine q)) o → (t : ℕ) × InQueue (mine q) t o
           there q h = has_stands (mine q).items.gone (items_of (mine q).items) o (has_item (items_of (mine q).items) o h)
 
-          queued : (q : ℕ) → In (waiting_in (mine q)) o → life_of w.objects o ≡ life.Queued
+          queued : (q : ℕ) → In (waiting_in (mine q)) o → life_of w.objects o ≡ Life.Queued
           queued q h = let s = there q h in l.callbacks.items.there q s.0 o s.1
 
           one_queue : (q : ℕ) → In (waiting_in (mine q)) o → q ≡ k
@@ -213,8 +196,8 @@ module _ {P : Type 0} (plans : Plans P) (layout : Layout) (slots : ℕ) (laws : 
   turn_updates : (u : ℕ) (x : UpdaterState P) → UpdaterRows plans w u x (λ v. StaysInTurn w)
   turn_updates u x _ _ (ByPush c head at is own) = λ k. k
   turn_updates u x _ _ (ByReplace o y at is) = λ k. k
-  turn_updates u x _ _ (BySync step at is goes on) = leaves _ (grace_quiet (holder.Updater u) (w.grace.asks + 1) new_core step is)
-  turn_updates u x _ _ (ByTurn ask sync step at is goes on) = leaves _ (grace_quiet (holder.Updater u) ask sync step is)
+  turn_updates u x _ _ (BySync step at is goes on) = leaves _ (grace_quiet (Holder.Updater u) (w.grace.asks + 1) new_core step is)
+  turn_updates u x _ _ (ByTurn ask sync step at is goes on) = leaves _ (grace_quiet (Holder.Updater u) ask sync step is)
   turn_updates u x _ _ (ByHold o q at may is free) = λ k i. k i ∙ ap (λ os. run_from i w.log ++ os) (sym (waits_same (held_by u) w.queues (queue_of w u) (own_queue u l.callbacks.sizes) refl i))
   turn_updates u x _ _ (ByRetire o step at) = turn_retire u x o step at
   turn_updates u x _ _ _ = leaves _ (record { runs = refl; queues = λ q. refl })
@@ -225,12 +208,12 @@ module _ {P : Type 0} (plans : Plans P) (layout : Layout) (slots : ℕ) (laws : 
     reads = λ r v verb was step row. leaves (told step.answer) (others_run (told step.answer) (other_reads plans.qsbr w.layout w r v step row));
     updates = λ u x was. turn_updates u x;
     works = λ k x was. record {
-      takes = λ q at is free some. let rests = work_now plans layout slots laws w l k x worker.Idle at in
-          quiet w.log w.queues _ _ none (waits_same (acted act.Seal) w.queues k (its_queue k x l.callbacks.sizes at.was) (items_sealed (mine k).items rests.0 rests.1));
-      works = λ sync tickets step at is goes on. quiet w.log w.queues _ _ (grace_quiet (holder.Worker k) (ask_for w x.ask sync) sync step is)
+      takes = λ q at is free some. let rests = work_now plans layout slots laws w l k x WorkerCore.Idle at in
+          quiet w.log w.queues _ _ none (waits_same (acted QueueAct.Seal) w.queues k (its_queue k x l.callbacks.sizes at.was) (items_sealed (mine k).items rests.0 rests.1));
+      works = λ sync tickets step at is goes on. quiet w.log w.queues _ _ (grace_quiet (Holder.Worker k) (ask_for w x.ask sync) sync step is)
           (waits_same (acted (worker_act step.grace.seq (synced_to step.core tickets))) w.queues k (its_queue k x l.callbacks.sizes at.was) (worker_keeps step.grace.seq (synced_to step.core tickets) (mine k)));
       runs = λ tickets first at is. turn_run k x tickets first at is;
-      counts = λ tickets ticket item at. quiet w.log w.queues _ _ none (waits_same (acted act.Finish) w.queues k (its_queue k x l.callbacks.sizes at.was) refl);
+      counts = λ tickets ticket item at. quiet w.log w.queues _ _ none (waits_same (acted QueueAct.Finish) w.queues k (its_queue k x l.callbacks.sizes at.was) refl);
     };
   }
 

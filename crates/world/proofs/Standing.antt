@@ -1,29 +1,8 @@
 -- The first test that fails goes by where the actor stands, and by the lock that its step needs free.
-use Rattle.world.proofs.Cited.{◌≡◌, ◌≢◌, ◌+◌, ◌-◌, ◌^◌, ◌==◌, ◌&&◌, ℕ, nat_le, nat_lt, cond, not, Bool, true, false, is_some, List, [], ◌∷◌, slice_get, Option, Some, None, Result, Ok, Err, refl, sym, ap, subst, IfOk, IfErr, option_map_or, get_or_from_slice_get, Close, ObjectId, Refusal, NotOpen, Busy, NestFull, NoActor, NoPlace, count_of, greatest_count, fresh, is_online, cookie_for, items_of, SyncCore, Told, WorkerCore, Telling, asked_with, is_finished, turned, told_of, Change, Answer, Events, Quiet, Wait, Blocked, Line, Reader, Updater, Worker, ReaderVerb, UpdaterVerb, WorkerVerb, QueueState, ReaderState, ReaderStep, Barrier, Note, Check, GraceState, Holder, Publishing, UpdaterPlace, Idle, Publishes, Syncs, Retires, Bars, UpdaterState, WorkerState, new_worker, empty_queue_state, section_of, is_open_in, quietly, telling, with_word, closed, stores, touch_row, Plans, BoardView, idle}
-use Rattle.gp_memb.specs.declared.plan.Turn.TheVariants as turns
-use Rattle.call_rcu_worker.specs.declared.sync.SyncCore.TheVariants as core
-use Rattle.call_rcu_worker.specs.declared.sync.Told.TheVariants as what
-use Rattle.call_rcu_worker.specs.declared.worker.WorkerCore.TheVariants as works
-use Rattle.world_state.specs.declared.line.Answer.TheVariants.{Idle as NothingThere}
-use Rattle.world_state.specs.declared.line.ReaderVerb.TheVariants as reader
-use Rattle.world_state.specs.declared.line.UpdaterVerb.TheVariants as updater
-use Rattle.world_state.specs.declared.line.WorkerVerb.TheVariants as worker
-use Rattle.world_state.specs.declared.updater.Holder.TheVariants as holder
-use Rattle.world_state.specs.declared.updater.Publishing.TheVariants as publishing
-use Rattle.world.specs.declared.grace.GraceStep.{GraceStep}
-use Rattle.world.specs.Answers.{answer_to}
+use Rattle.world.proofs.Cited.{◌≡◌, ◌≢◌, ◌+◌, ◌-◌, ◌^◌, ◌==◌, ◌&&◌, ℕ, nat_le, nat_lt, cond, not, Bool, true, false, is_some, List, [], ◌∷◌, slice_get, Option, Some, None, Result, Ok, Err, refl, sym, ap, subst, IfOk, IfErr, option_map_or, get_or_from_slice_get, Close, ObjectId, Refusal, NotOpen, Busy, NestFull, NoActor, NoPlace, count_of, greatest_count, fresh, is_online, cookie_for, items_of, SyncCore, Told, WorkerCore, Telling, asked_with, is_finished, turned, told_of, Change, Answer, Events, Quiet, Wait, Blocked, Line, Reader, Updater, Worker, ReaderVerb, UpdaterVerb, WorkerVerb, QueueState, ReaderState, ReaderStep, Note, Check, GraceState, Holder, Publishing, UpdaterPlace, Idle, Publishes, Syncs, Bars, UpdaterState, WorkerState, new_worker, empty_queue_state, section_of, is_open_in, quietly, telling, with_word, closed, stores, touch_row, Plans, BoardView, idle, Turn, GraceStep, answer_to, linked_by, first_row, next_row, next_from, push_row, replace_row, cut_row, pushed_row, replaced_row, published, stepped, lock_effect, action_effect, plan_now, planned, done_with, grace_row, sync_row, start_row, poll_row, operation_test, reads_on, reader_verb, reader_line, grace_change, is_idle, updater_on, updates_on, updater_verb, updater_line, works_on, worker_verb, worker_line, of_reader, of_updater, of_worker, row_of, lock_of, IsOfVerb, Test, refused_if, stalled_if, first_failing, refusal_of, WorldView, OfMemb, OfQsbr, memb_plans, qsbr_plans, IsPrompt, exact, tests_of, MeetsTests, is_none_left, first_in, take_row, run_row, worker_on, work_change, ask_for, is_resting}
 use Rattle.world.specs.Blocking.{is_to_lock, place_is_to_lock, core_is_to_lock, needs_held_lock, is_locked_out, IsBlockedIf}
-use Rattle.world.specs.Chains.{linked_by, first_row, next_row, next_from, push_row, replace_row, cut_row, pushed_row, replaced_row, published}
-use Rattle.world.specs.Grace.{stepped, lock_effect, action_effect, plan_now, planned, done_with, grace_row, sync_row, start_row, poll_row}
-use Rattle.world.specs.Lines.{operation_test, reads_on, reader_verb, reader_line, grace_change, is_idle, updater_on, updates_on, updater_verb, updater_line, works_on, worker_verb, worker_line, of_reader, of_updater, of_worker, row_of}
-use Rattle.world.specs.Locks.{lock_of}
 use Rattle.world.specs.Queues.{queue_of, may_retire, lock_row as queue_lock_row, barrier_on}
-use Rattle.world.specs.Refusals.{IsOfVerb}
-use Rattle.world.specs.Row.{Test, refused_if, stalled_if, first_failing, refusal_of}
 use Rattle.world.specs.Standing.{outside, by_section, by_cookie, by_operation, refusal_in, standing_refusal, MeetsStanding}
-use Rattle.world.specs.Steps.{WorldView, OfMemb, OfQsbr, memb_plans, qsbr_plans, IsPrompt}
-use Rattle.world.specs.Tests.{exact, tests_of, MeetsTests}
-use Rattle.world.specs.Workers.{is_none_left, first_in, take_row, run_row, worker_on, work_change, ask_for, is_resting}
 use Rattle.world.proofs.Checks.{past}
 use Rattle.world.proofs.Rows.{by_option}
 
@@ -97,24 +76,19 @@ module _ {P : Type 0} (w : BoardView P) (r : ℕ) (v : ReaderState) where
 
   -- a verb, by its tests
   verb_tells : (qsbr : Bool) (verb : ReaderVerb) → Tells (by_section qsbr (is_open_in qsbr w.layout v.word) verb) false (first_failing (reader_verb qsbr w r v verb).tests)
-  verb_tells true reader.Lock = refl
-  verb_tells false reader.Lock = enters (count_of w.layout v.word == 0) (count_of w.layout v.word == greatest_count w.layout)
-  verb_tells true reader.Unlock = refl
-  verb_tells false reader.Unlock = elim (count_of w.layout v.word == 0) as (λ none. Tells (outside (not none)) false (first_failing (refusal_of (stores left_with (cond none (Err NotOpen) (Ok (v.word - 1))))))) [ true ↦ refl | false ↦ refl ]
-  verb_tells true reader.Online = elim (is_online v.word) as (λ is_open. Tells (cond is_open (Some Busy) None) false (first_failing (refusal_of (cond is_open (Err Busy) (Ok copied))))) [ true ↦ refl | false ↦ refl ]
-  verb_tells false reader.Online = refl
-  verb_tells true reader.Quiescent = announces (is_online v.word) copied
-  verb_tells false reader.Quiescent = refl
-  verb_tells true reader.Offline = announces (is_online v.word) (telling (Close (section_of r v.ordinal)) (closed v 0))
-  verb_tells false reader.Offline = refl
-  verb_tells qsbr (reader.First c) = in_section (is_open_in qsbr w.layout v.word) (first_row r v c (slice_get w.heads c)).tests (elim (slice_get w.heads c) as (λ head. ArePlain (first_row r v c head).tests) [ None ↦ (tt, tt) | Some head ↦ tt ])
-  verb_tells qsbr reader.Next = in_section (is_open_in qsbr w.layout v.word) (next_from w r v v.cursor).tests
+  verb_tells false ReaderVerb.Lock = enters (count_of w.layout v.word == 0) (count_of w.layout v.word == greatest_count w.layout)
+  verb_tells false ReaderVerb.Unlock = elim (count_of w.layout v.word == 0) as (λ none. Tells (outside (not none)) false (first_failing (refusal_of (stores left_with (cond none (Err NotOpen) (Ok (v.word - 1))))))) [ true ↦ refl | false ↦ refl ]
+  verb_tells true ReaderVerb.Online = elim (is_online v.word) as (λ is_open. Tells (cond is_open (Some Busy) None) false (first_failing (refusal_of (cond is_open (Err Busy) (Ok copied))))) [ true ↦ refl | false ↦ refl ]
+  verb_tells true ReaderVerb.Quiescent = announces (is_online v.word) copied
+  verb_tells true ReaderVerb.Offline = announces (is_online v.word) (telling (Close (section_of r v.ordinal)) (closed v 0))
+  verb_tells qsbr (ReaderVerb.First c) = in_section (is_open_in qsbr w.layout v.word) (first_row r v c (slice_get w.heads c)).tests (elim (slice_get w.heads c) as (λ head. ArePlain (first_row r v c head).tests) [ None ↦ (tt, tt) | Some head ↦ tt ])
+  verb_tells qsbr ReaderVerb.Next = in_section (is_open_in qsbr w.layout v.word) (next_from w r v v.cursor).tests
       (elim v.cursor as (λ from. ArePlain (next_from w r v from).tests) [ None ↦ (tt, tt) | Some o ↦ elim (slice_get w.objects o.0) as (λ x. ArePlain (next_row r v o x).tests) [ None ↦ tt | Some x ↦ tt ] ])
-  verb_tells qsbr reader.Touch = in_section (is_open_in qsbr w.layout v.word) (refusal_of (touch_row r v v.cursor)) (elim v.cursor as (λ from. ArePlain (refusal_of (touch_row r v from))) [ None ↦ (tt, tt) | Some o ↦ tt ])
-  verb_tells qsbr reader.GoOn = refl
+  verb_tells qsbr ReaderVerb.Touch = in_section (is_open_in qsbr w.layout v.word) (refusal_of (touch_row r v v.cursor)) (elim v.cursor as (λ from. ArePlain (refusal_of (touch_row r v from))) [ None ↦ (tt, tt) | Some o ↦ tt ])
+  verb_tells _ _ = refl
 
   reads : (qsbr : Bool) (verb : ReaderVerb) → Tells (by_operation (reads_on verb) (is_some v.copy) (by_section qsbr (is_open_in qsbr w.layout v.word) verb)) false (first_failing (reader_line qsbr w r v verb).tests)
-  reads qsbr reader.GoOn = continues (is_some v.copy) None false [] refl
+  reads qsbr ReaderVerb.GoOn = continues (is_some v.copy) None false [] refl
   reads qsbr verb = begins (is_some v.copy) (by_section qsbr (is_open_in qsbr w.layout v.word) verb) false (reader_verb qsbr w r v verb).tests (verb_tells qsbr verb)
 
 -- ---- steps of grace periods
@@ -136,9 +110,9 @@ module _ {P : Type 0} (plans : Plans P) (w : BoardView P) where
   fine_ask (Err e) h = h
 
   fine_told : (sync : SyncCore P) (loaded : ℕ) → Fine (told_of plans.action plans.turn plans.taken sync loaded)
-  fine_told core.Asks loaded = fine_ask (cookie_for loaded) (fine_cookie loaded)
-  fine_told (core.Checks c) loaded = either (nat_le c loaded) _ _ tt tt
-  fine_told (core.Runs c p) loaded = elim (plans.turn p loaded) as (λ turn. Fine (turned plans.action c p (plans.taken p loaded) turn)) [ turns.Wait ↦ tt | turns.Step ↦ either (is_finished (plans.action (plans.taken p loaded))) _ _ tt tt ]
+  fine_told SyncCore.Asks loaded = fine_ask (cookie_for loaded) (fine_cookie loaded)
+  fine_told (SyncCore.Checks c) loaded = either (nat_le c loaded) _ _ tt tt
+  fine_told (SyncCore.Runs c p) loaded = elim (plans.turn p loaded) as (λ turn. Fine (turned plans.action c p (plans.taken p loaded) turn)) [ Turn.Wait ↦ tt | Turn.Step ↦ either (is_finished (plans.action (plans.taken p loaded))) _ _ tt tt ]
   fine_told _ loaded = tt
 
   -- a step that takes no lock
@@ -147,41 +121,40 @@ module _ {P : Type 0} (plans : Plans P) (w : BoardView P) where
   tells_step change grace ask (Ok t) h = by t.told
     where
       by : (told : Told) → Tells None false (first_failing (sync_row change (Ok (record { core = t.core; grace = grace; answer = answer_to ask told }))).tests)
-      by what.Waiting = waits
+      by Told.Waiting = waits
       by _ = refl
 
   tells_sync : (change : GraceStep P → Change P) (me : Holder) (ask : ℕ) (sync : SyncCore P) → Tells None (is_to_lock sync && is_some w.grace.holder) (first_failing (sync_row change (grace_row plans w me ask sync)).tests)
-  tells_sync change me ask core.Asks = tells_step change (record w.grace { asks = ask }) ask (asked_with (cookie_for w.grace.seq)) (fine_told core.Asks w.grace.seq)
-  tells_sync change me ask (core.Waits c) = by w.grace.holder
+  tells_sync change me ask SyncCore.Asks = tells_step change (record w.grace { asks = ask }) ask (asked_with (cookie_for w.grace.seq)) (fine_told SyncCore.Asks w.grace.seq)
+  tells_sync change me ask (SyncCore.Waits c) = by w.grace.holder
     where
-      by : (held : Option Holder) → Tells None (true && is_some held) (first_failing (sync_row change (done_with plans w ask (core.Waits c) (lock_effect w me held))).tests)
+      by : (held : Option Holder) → Tells None (true && is_some held) (first_failing (sync_row change (done_with plans w ask (SyncCore.Waits c) (lock_effect w me held))).tests)
       by None = refl
       by (Some other) = refl
-  tells_sync change me ask (core.Checks c) = tells_step change w.grace ask (told_of plans.action plans.turn plans.taken (core.Checks c) w.grace.seq) (fine_told (core.Checks c) w.grace.seq)
-  tells_sync change me ask (core.Starts c) =
+  tells_sync change me ask (SyncCore.Checks c) = tells_step change w.grace ask (told_of plans.action plans.turn plans.taken (SyncCore.Checks c) w.grace.seq) (fine_told (SyncCore.Checks c) w.grace.seq)
+  tells_sync change me ask (SyncCore.Starts c) =
       let p : P = plan_now plans w in
       let loaded : ℕ = (action_effect {P = P} w (plans.action p)).loaded in
-      tells_step change (action_effect {P = P} w (plans.action p)).grace ask (told_of plans.action plans.turn plans.taken (core.Runs c p) loaded) (fine_told (core.Runs c p) loaded)
-  tells_sync change me ask (core.Runs c p) =
+      tells_step change (action_effect {P = P} w (plans.action p)).grace ask (told_of plans.action plans.turn plans.taken (SyncCore.Runs c p) loaded) (fine_told (SyncCore.Runs c p) loaded)
+  tells_sync change me ask (SyncCore.Runs c p) =
       let loaded : ℕ = (action_effect {P = P} w (plans.action p)).loaded in
-      let sync : SyncCore P = planned (core.Runs c p) (action_effect {P = P} w (plans.action p)).plan in
+      let sync : SyncCore P = planned (SyncCore.Runs c p) (action_effect {P = P} w (plans.action p)).plan in
       tells_step change (action_effect {P = P} w (plans.action p)).grace ask (told_of plans.action plans.turn plans.taken sync loaded) (fine_told sync loaded)
-  tells_sync change me ask core.Frees = tells_step change (record w.grace { holder = None }) ask (told_of plans.action plans.turn plans.taken core.Frees 0) tt
-  tells_sync change me ask core.Done = tells_step change w.grace ask (told_of plans.action plans.turn plans.taken core.Done 0) tt
+  tells_sync change me ask SyncCore.Frees = tells_step change (record w.grace { holder = None }) ask (told_of plans.action plans.turn plans.taken SyncCore.Frees 0) tt
+  tells_sync change me ask SyncCore.Done = tells_step change w.grace ask (told_of plans.action plans.turn plans.taken SyncCore.Done 0) tt
 
   -- ---- updaters
 
   module _ (u : ℕ) (x : UpdaterState P) where
     publishes : (what : Publishing) → Tells None false (first_failing (published w u x what).tests)
-    publishes (publishing.Push new) = elim (slice_get w.objects new.0) as (λ y. Tells None false (first_failing (pushed_row u (record x { place = Idle }) new y).tests)) [ None ↦ refl | Some y ↦ refl ]
-    publishes (publishing.Replace old new) = elim (slice_get w.objects old.0) as (λ y. Tells None false (first_failing (replaced_row u (record x { place = Idle }) old new y).tests)) [ None ↦ refl | Some y ↦ refl ]
+    publishes (Publishing.Push new) = elim (slice_get w.objects new.0) as (λ y. Tells None false (first_failing (pushed_row u (record x { place = Idle }) new y).tests)) [ None ↦ refl | Some y ↦ refl ]
+    publishes (Publishing.Replace old new) = elim (slice_get w.objects old.0) as (λ y. Tells None false (first_failing (replaced_row u (record x { place = Idle }) old new y).tests)) [ None ↦ refl | Some y ↦ refl ]
 
     goes_on : (place : UpdaterPlace P) → Tells None (place_is_to_lock place && is_some w.grace.holder) (first_failing (updater_on plans w u x place).tests)
-    goes_on Idle = refl
     goes_on (Publishes what) = publishes what
-    goes_on (Syncs ask sync) = tells_sync (grace_change plans u x ask) (holder.Updater u) ask sync
-    goes_on (Retires o due) = refl
+    goes_on (Syncs ask sync) = tells_sync (grace_change plans u x ask) (Holder.Updater u) ask sync
     goes_on (Bars b) = plain (barrier_on w u x b b.due).tests (elim b.due as (λ step. ArePlain (barrier_on w u x b step).tests) [ Note q ↦ tt | Check q ↦ (waits, tt) ])
+    goes_on _ = refl
 
     retires : (o : ObjectId) (may : Bool) (q : Option QueueState) → slice_get w.queues (queue_of w u) ≡ q → Tells None (may && is_some (lock_of w (queue_of w u))) (first_failing (refused_if (not may) NoPlace ∷ (queue_lock_row w u x o q).tests))
     retires o false q is = tt
@@ -190,28 +163,25 @@ module _ {P : Type 0} (plans : Plans P) (w : BoardView P) where
         subst (λ (z : QueueState). Tells None (is_some z.holder) (first_failing (queue_lock_row w u x o (Some q)).tests)) (sym (get_or_from_slice_get w.queues (queue_of w u) q empty_queue_state is))
         (locks (is_some q.holder) [] tt)
 
-    abbrev busy : Bool
-    busy = not (is_idle x.place)
-
     -- a verb, by its tests
     verb_updates : slice_get w.updaters u ≡ Some x → (verb : UpdaterVerb) → Tells (by_cookie verb x.started) (needs_held_lock w (Updater u verb)) (first_failing (updater_verb plans w u x verb).tests)
-    verb_updates there (updater.Push c) = plain (push_row w u x c (slice_get w.heads c)).tests (elim (slice_get w.heads c) as (λ head. ArePlain (push_row w u x c head).tests) [ None ↦ (tt, tt) | Some head ↦ (tt, tt) ])
-    verb_updates there (updater.Replace o) = plain (replace_row w u x o (linked_by w u (slice_get w.objects o.0))).tests (elim (linked_by w u (slice_get w.objects o.0)) as (λ y. ArePlain (replace_row w u x o y).tests) [ None ↦ (tt, tt) | Some y ↦ tt ])
-    verb_updates there (updater.Cut o) = plain (cut_row u x o (linked_by w u (slice_get w.objects o.0))).tests (elim (linked_by w u (slice_get w.objects o.0)) as (λ y. ArePlain (cut_row u x o y).tests) [ None ↦ (tt, tt) | Some y ↦ tt ])
-    verb_updates there (updater.Retire o) = retires o (may_retire w u (slice_get w.objects o.0)) (slice_get w.queues (queue_of w u)) refl
-    verb_updates there updater.Sync = tells_sync (grace_change plans u x (w.grace.asks + 1)) (holder.Updater u) (w.grace.asks + 1) core.Asks
-    verb_updates there updater.Start = plain (start_row w u x (cookie_for w.grace.seq)).tests
+    verb_updates there (UpdaterVerb.Push c) = plain (push_row w u x c (slice_get w.heads c)).tests (elim (slice_get w.heads c) as (λ head. ArePlain (push_row w u x c head).tests) [ None ↦ (tt, tt) | Some head ↦ (tt, tt) ])
+    verb_updates there (UpdaterVerb.Replace o) = plain (replace_row w u x o (linked_by w u (slice_get w.objects o.0))).tests (elim (linked_by w u (slice_get w.objects o.0)) as (λ y. ArePlain (replace_row w u x o y).tests) [ None ↦ (tt, tt) | Some y ↦ tt ])
+    verb_updates there (UpdaterVerb.Cut o) = plain (cut_row u x o (linked_by w u (slice_get w.objects o.0))).tests (elim (linked_by w u (slice_get w.objects o.0)) as (λ y. ArePlain (cut_row u x o y).tests) [ None ↦ (tt, tt) | Some y ↦ tt ])
+    verb_updates there (UpdaterVerb.Retire o) = retires o (may_retire w u (slice_get w.objects o.0)) (slice_get w.queues (queue_of w u)) refl
+    verb_updates there UpdaterVerb.Sync = tells_sync (grace_change plans u x (w.grace.asks + 1)) (Holder.Updater u) (w.grace.asks + 1) SyncCore.Asks
+    verb_updates there UpdaterVerb.Start = plain (start_row w u x (cookie_for w.grace.seq)).tests
         ((elim (cookie_for w.grace.seq) as (λ cookie. Fine cookie → ArePlain (start_row w u x cookie).tests) [ Ok c ↦ λ h. tt | Err e ↦ λ h. (h, tt) ]) (fine_cookie w.grace.seq))
-    verb_updates there updater.Poll = elim x.started as (λ s. Tells (by_cookie updater.Poll s) false (first_failing (poll_row w u x s).tests)) [ None ↦ refl | Some s ↦ plain (poll_row w u x (Some s)).tests (waits, tt) ]
-    verb_updates there updater.Barrier = refl
-    verb_updates there updater.GoOn =
+    verb_updates there UpdaterVerb.Poll = elim x.started as (λ s. Tells (by_cookie UpdaterVerb.Poll s) false (first_failing (poll_row w u x s).tests)) [ None ↦ refl | Some s ↦ plain (poll_row w u x (Some s)).tests (waits, tt) ]
+    verb_updates there UpdaterVerb.Barrier = refl
+    verb_updates there UpdaterVerb.GoOn =
         subst (λ (y : UpdaterState P). Tells None (place_is_to_lock y.place && is_some w.grace.holder) (first_failing (updater_on plans w u x x.place).tests)) (sym (get_or_from_slice_get w.updaters u x idle there)) (goes_on x.place)
 
-    updates : slice_get w.updaters u ≡ Some x → (verb : UpdaterVerb) → Tells (by_operation (updates_on verb) busy (by_cookie verb x.started)) (needs_held_lock w (Updater u verb)) (first_failing (updater_line plans w u x verb).tests)
-    updates there updater.GoOn = continues busy None (needs_held_lock w (Updater u updater.GoOn)) (updater_verb plans w u x updater.GoOn).tests (verb_updates there updater.GoOn)
-    updates there (updater.Retire o) = begins busy None (needs_held_lock w (Updater u (updater.Retire o))) (updater_verb plans w u x (updater.Retire o)).tests (verb_updates there (updater.Retire o))
-    updates there updater.Poll = begins busy (by_cookie updater.Poll x.started) false (updater_verb plans w u x updater.Poll).tests (verb_updates there updater.Poll)
-    updates there verb = begins busy None false (updater_verb plans w u x verb).tests (verb_updates there verb)
+    updates : slice_get w.updaters u ≡ Some x → (verb : UpdaterVerb) → Tells (by_operation (updates_on verb) (not (is_idle x.place)) (by_cookie verb x.started)) (needs_held_lock w (Updater u verb)) (first_failing (updater_line plans w u x verb).tests)
+    updates there UpdaterVerb.GoOn = continues (not (is_idle x.place)) None (needs_held_lock w (Updater u UpdaterVerb.GoOn)) (updater_verb plans w u x UpdaterVerb.GoOn).tests (verb_updates there UpdaterVerb.GoOn)
+    updates there (UpdaterVerb.Retire o) = begins (not (is_idle x.place)) None (needs_held_lock w (Updater u (UpdaterVerb.Retire o))) (updater_verb plans w u x (UpdaterVerb.Retire o)).tests (verb_updates there (UpdaterVerb.Retire o))
+    updates there UpdaterVerb.Poll = begins (not (is_idle x.place)) (by_cookie UpdaterVerb.Poll x.started) false (updater_verb plans w u x UpdaterVerb.Poll).tests (verb_updates there UpdaterVerb.Poll)
+    updates there verb = begins (not (is_idle x.place)) None false (updater_verb plans w u x verb).tests (verb_updates there verb)
 
   -- ---- workers
 
@@ -220,21 +190,21 @@ module _ {P : Type 0} (plans : Plans P) (w : BoardView P) where
     takes None is = ap (λ (q : QueueState). is_some q.holder) (past w.queues k empty_queue_state is)
     takes (Some q) is =
         subst (λ (z : QueueState). Tells None (is_some z.holder) (first_failing (take_row w k x (Some q)).tests)) (sym (get_or_from_slice_get w.queues k q empty_queue_state is))
-        (locks (is_some q.holder) (stalled_if (is_none_left (items_of q.items)) NothingThere ∷ []) ((λ e. let no : NothingThere ≡ Blocked = e in cc), tt))
+        (locks (is_some q.holder) (stalled_if (is_none_left (items_of q.items)) Answer.Idle ∷ []) ((λ e. let no : Answer.Idle ≡ Blocked = e in cc), tt))
 
     works_at : (place : WorkerCore P Unit) → Tells None (core_is_to_lock place && is_some w.grace.holder) (first_failing (worker_on plans w k x place).tests)
-    works_at (works.Syncs sync tickets) = tells_sync (work_change k (ask_for w x.ask sync) tickets) (holder.Worker k) (ask_for w x.ask sync) sync
-    works_at (works.Pops tickets) = elim (first_in (slice_get w.queues k)) as (λ first. Tells None false (first_failing (run_row w k x tickets first).tests)) [ None ↦ refl | Some first ↦ refl ]
+    works_at (WorkerCore.Syncs sync tickets) = tells_sync (work_change k (ask_for w x.ask sync) tickets) (Holder.Worker k) (ask_for w x.ask sync) sync
+    works_at (WorkerCore.Pops tickets) = elim (first_in (slice_get w.queues k)) as (λ first. Tells None false (first_failing (run_row w k x tickets first).tests)) [ None ↦ refl | Some first ↦ refl ]
     works_at _ = refl
 
     verb_works : slice_get w.workers k ≡ Some x → (verb : WorkerVerb) → Tells None (needs_held_lock w (Worker k verb)) (first_failing (worker_verb plans w k x verb).tests)
-    verb_works there worker.Take = takes (slice_get w.queues k) refl
-    verb_works there worker.GoOn =
+    verb_works there WorkerVerb.Take = takes (slice_get w.queues k) refl
+    verb_works there WorkerVerb.GoOn =
         subst (λ (y : WorkerState P). Tells None (core_is_to_lock y.core && is_some w.grace.holder) (first_failing (worker_on plans w k x x.core).tests)) (sym (get_or_from_slice_get w.workers k x new_worker there)) (works_at x.core)
 
     does : slice_get w.workers k ≡ Some x → (verb : WorkerVerb) → Tells (by_operation (works_on verb) (not (is_resting x.core)) None) (needs_held_lock w (Worker k verb)) (first_failing (worker_line plans w k x verb).tests)
-    does there worker.Take = begins (not (is_resting x.core)) None (needs_held_lock w (Worker k worker.Take)) (worker_verb plans w k x worker.Take).tests (verb_works there worker.Take)
-    does there worker.GoOn = continues (not (is_resting x.core)) None (needs_held_lock w (Worker k worker.GoOn)) (worker_verb plans w k x worker.GoOn).tests (verb_works there worker.GoOn)
+    does there WorkerVerb.Take = begins (not (is_resting x.core)) None (needs_held_lock w (Worker k WorkerVerb.Take)) (worker_verb plans w k x WorkerVerb.Take).tests (verb_works there WorkerVerb.Take)
+    does there WorkerVerb.GoOn = continues (not (is_resting x.core)) None (needs_held_lock w (Worker k WorkerVerb.GoOn)) (worker_verb plans w k x WorkerVerb.GoOn).tests (verb_works there WorkerVerb.GoOn)
 
   -- ---- a line of an actor, if there is such an actor
 

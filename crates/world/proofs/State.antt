@@ -1,9 +1,5 @@
 -- What the world keeps beside the machine: one record of parts.
-use Rattle.world.proofs.Cited.{◌≡◌, ◌≢◌, ◌⊎◌, inl, inr, ⊎_elim, ℕ, ◌+◌, ◌-◌, ◌^◌, ◌<◌, ◌≤◌, ◌==◌, Bool, true, false, List, [], ◌∷◌, ◌++◌, length, get_or, slice_set, Option, Some, None, Result, Ok, Err, refl, sym, ap, subst, arith, true≢false, append-nil, get_or-set_other, get_or-set_same, not-true, eqb-false, Event, ObjectId, Refusal, State, AreAllowed, after_all, Layout, count_of, phase_in, number, Shows, SyncCore, ReaderState, ObjectState, Holder, UpdaterPlace, Publishes, Syncs, Started, UpdaterState, Change, Read, Begin, Publish, Grace, Hold, Bar, Stay, WorkerCore, WorkerState, new_worker, Plans, BoardView, idle, told, changed, is_open_in, LinksKept, PlaceKept, decide_number, reader_at, ReadersKept, reader_there}
-use Rattle.call_rcu_worker.specs.declared.sync.SyncCore.TheVariants as core
-use Rattle.world_state.specs.declared.updater.Holder.TheVariants as holder
-use Rattle.world_state.specs.declared.change.Change.TheVariants.{Retire, Work as Works}
-use Rattle.call_rcu_worker.specs.declared.worker.WorkerCore.TheVariants as worker
+use Rattle.world.proofs.Cited.{◌≡◌, ◌≢◌, ◌⊎◌, inl, inr, ⊎_elim, ℕ, ◌+◌, ◌-◌, ◌^◌, ◌<◌, ◌≤◌, ◌==◌, Bool, true, false, List, [], ◌∷◌, ◌++◌, length, get_or, slice_set, Option, Some, None, Result, Ok, Err, refl, sym, ap, subst, arith, true≢false, append-nil, get_or-set_other, get_or-set_same, not-true, eqb-false, Event, ObjectId, Refusal, State, AreAllowed, after_all, Layout, count_of, phase_in, number, Shows, SyncCore, ReaderState, ObjectState, Holder, UpdaterPlace, Publishes, Syncs, Started, UpdaterState, Change, Read, Begin, Publish, Grace, Hold, Bar, Stay, WorkerCore, WorkerState, new_worker, Plans, BoardView, idle, told, changed, is_open_in, LinksKept, PlaceKept, decide_number, reader_at, ReadersKept, reader_there, get_or_from_slice_get, slice_get, ◌∙◌}
 use Rattle.world.proofs.Fence.{Work, Rests, Waits, Checks, Starts, Runs, Frees, Laws, Sets, Part, Marks}
 
 -- who may ask: an updater by `sync`, an updater by `start`, a worker
@@ -20,20 +16,20 @@ decide_asker _ _ = inr (λ e. cc)
 
 -- what each does
 abbrev pub core_work : {P : Type 0} → ℕ → SyncCore P → Work P
-core_work ask core.Asks = Rests
-core_work ask (core.Waits cookie) = Waits ask cookie
-core_work ask (core.Checks cookie) = Checks ask cookie
-core_work ask (core.Starts cookie) = Starts ask cookie
-core_work ask (core.Runs cookie plan) = Runs ask cookie plan
-core_work ask core.Frees = Frees
-core_work ask core.Done = Rests
+core_work ask SyncCore.Asks = Rests
+core_work ask (SyncCore.Waits cookie) = Waits ask cookie
+core_work ask (SyncCore.Checks cookie) = Checks ask cookie
+core_work ask (SyncCore.Starts cookie) = Starts ask cookie
+core_work ask (SyncCore.Runs cookie plan) = Runs ask cookie plan
+core_work ask SyncCore.Frees = Frees
+core_work ask SyncCore.Done = Rests
 
 abbrev pub place_work : {P : Type 0} → UpdaterPlace P → Work P
 place_work (Syncs ask core) = core_work ask core
 place_work _ = Rests
 
 abbrev pub worker_work : {P : Type 0} → ℕ → WorkerCore P Unit → Work P
-worker_work ask (worker.Syncs core tickets) = core_work ask core
+worker_work ask (WorkerCore.Syncs core tickets) = core_work ask core
 worker_work ask _ = Rests
 
 abbrev pub started_work : {P : Type 0} → Option Started → Work P
@@ -52,8 +48,8 @@ work_of updaters workers (Polling u) = started_work (updater_at updaters u).star
 work_of updaters workers (Working k) = worker_work (worker_at workers k).ask (worker_at workers k).core
 
 abbrev pub asker_of : Holder → Asker
-asker_of (holder.Updater u) = Syncing u
-asker_of (holder.Worker k) = Working k
+asker_of (Holder.Updater u) = Syncing u
+asker_of (Holder.Worker k) = Working k
 
 abbrev pub holder_of : Option Holder → Option Asker
 holder_of None = None
@@ -78,8 +74,8 @@ at_workers = at_each new_worker
 
 -- a grace period that rests between two lines was asked for, and is not done
 abbrev pub IsUnderWay : {P : Type 0} → SyncCore P → Type 0
-IsUnderWay core.Asks = ⊥
-IsUnderWay core.Done = ⊥
+IsUnderWay SyncCore.Asks = ⊥
+IsUnderWay SyncCore.Done = ⊥
 IsUnderWay _ = Unit {0}
 
 -- where an updater stands between two steps of its operation
@@ -93,9 +89,9 @@ abbrev pub told_by : {P : Type 0} → Change P → List Event
 told_by (Read r step) = told step.answer
 told_by (Publish u x splice event) = event ∷ []
 told_by (Grace u x grace answer) = told answer
-told_by (Retire u x q act mark answer) = told answer
+told_by (Change.Retire u x q act mark answer) = told answer
 told_by (Bar u x barriers answer) = told answer
-told_by (Works k x grace act mark answer) = told answer
+told_by (Change.Work k x grace act mark answer) = told answer
 told_by _ = []
 
 pub log_after : {P : Type 0} (w : BoardView P) (change : Change P) → (changed w change).log ≡ w.log ++ told_by change
@@ -116,7 +112,7 @@ module _ {P : Type 0} (plans : Plans P) (layout : Layout) (slots : ℕ) (laws : 
     pub links_kept : LinksKept w.heads w.objects now.chain now.used now.cut now.successor
     pub places_kept : (u : ℕ) → UpdaterKept w.heads w.objects (length w.updaters) u (updater_at w.updaters u).place
     pub readers_kept : ReadersKept plans.qsbr layout w.readers w.grace.word w.objects now.sections now.seen now.held
-    pub part : Part plans layout slots laws decide_asker (holder_of w.grace.holder) (work_of w.updaters w.workers) (word_at w.readers) w.grace.asks w.grace.seq w.grace.word now.asked now.answered now.asked_sections now.sections
+    pub part : Part plans layout slots laws (holder_of w.grace.holder) (work_of w.updaters w.workers) (word_at w.readers) w.grace.asks w.grace.seq w.grace.word now.asked now.answered now.asked_sections now.sections
     pub ordinals : (r : ℕ) → (reader_at w.readers r).ordinal ≤ length w.log
     pub asks_low : w.grace.asks ≤ length w.log
     pub seq_low : w.grace.seq ≤ 2 ^ 62 + 2
@@ -136,12 +132,20 @@ module _ {P : Type 0} (plans : Plans P) (layout : Layout) (slots : ℕ) (laws : 
       same true = refl
       same false = refl
 
-  pub marks_of : (w : BoardView P) (now : State) → Kept w now → Marks plans layout slots laws decide_asker (word_at w.readers) w.grace.word now.sections
+  pub marks_of : (w : BoardView P) (now : State) → Kept w now → Marks plans layout slots laws (word_at w.readers) w.grace.word now.sections
   marks_of w now k s h =
       let mine = k.readers_kept s.reader in (
         subst (λ n. s.reader < n) k.shape.sized (reader_there plans.qsbr layout w.readers w.grace.word w.objects now.sections now.seen now.held k.readers_kept s h),
         mark_shown plans.qsbr w.grace.word (word_at w.readers s.reader) (mine.opens s.ordinal h).1 mine.marked,
       )
+
+module _ {P : Type 0} where
+  -- where an actor stands, whose state is so now
+  pub stands_at : (updaters : List (UpdaterState P)) (u : ℕ) (x : UpdaterState P) {place : UpdaterPlace P} → slice_get updaters u ≡ Some x → x.place ≡ place → (updater_at updaters u).place ≡ place
+  stands_at updaters u x there is = ap (λ (y : UpdaterState P). y.place) (get_or_from_slice_get updaters u x idle there) ∙ is
+
+  pub works_at : (workers : List (WorkerState P)) (n : ℕ) (x : WorkerState P) {core : WorkerCore P Unit} → slice_get workers n ≡ Some x → x.core ≡ core → worker_work (worker_at workers n).ask (worker_at workers n).core ≡ worker_work x.ask core
+  works_at workers n x there is = ap (λ (y : WorkerState P). worker_work y.ask y.core) (get_or_from_slice_get workers n x new_worker there) ∙ ap (worker_work x.ask) is
 
   -- one updater's place is set
   pub work_set : (updaters : List (UpdaterState P)) (workers : List (WorkerState P)) (u : ℕ) (x : UpdaterState P) → u < length updaters → x.started ≡ (updater_at updaters u).started → Sets (work_of updaters workers) (work_of (slice_set updaters u x) workers) (Syncing u) (place_work x.place)

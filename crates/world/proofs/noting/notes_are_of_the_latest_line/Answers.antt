@@ -1,7 +1,5 @@
-use Rattle.world.proofs.Cited.{ℕ, List, sym, subst, Config, Flavour, Memb, Qsbr, Line, fresh_at}
-use Rattle.world.specs.Lines.{world_after}
+use Rattle.world.proofs.Cited.{ℕ, List, sym, subst, Config, Flavour, Memb, Qsbr, Line, fresh_at, world_after, WorldView, memb_plans, qsbr_plans, fresh_in, world_after_lines}
 use Rattle.world.specs.Notes.{AreNoted, NotesAreOfTheLatest, replies_to, replies_of}
-use Rattle.world.specs.Steps.{WorldView, memb_plans, qsbr_plans, fresh_in, world_after_lines}
 use Rattle.world.proofs.Promises.{memb_lines, qsbr_lines}
 use Rattle.world.proofs.noting.notes_are_of_the_latest_line.Goals as goal
 

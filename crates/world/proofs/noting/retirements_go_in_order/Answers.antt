@@ -1,9 +1,5 @@
-use Rattle.world.proofs.Cited.{ℕ, ◌<◌, length, arith, MembPlan, QsbrPlan, BoardView}
-use Rattle.world.specs.Queues.{queue_of}
-use Rattle.world.specs.Reached.{IsReached}
+use Rattle.world.proofs.Cited.{ℕ, ◌<◌, length, arith, MembPlan, QsbrPlan, BoardView, queue_of, IsReached, HasQueues, IsInRange, WorldView, OfMemb, OfQsbr, memb_plans, qsbr_plans, IsReachedWorld, fresh_world_at, world_after_lines}
 use Rattle.world.specs.Retiring.{RetirementsGoInOrder}
-use Rattle.world.specs.Shown.{HasQueues, IsInRange}
-use Rattle.world.specs.Steps.{WorldView, OfMemb, OfQsbr, memb_plans, qsbr_plans, IsReachedWorld, fresh_world_at, world_after_lines}
 use Rattle.world.proofs.Promises.{reached_by}
 use Rattle.world.proofs.Checks.{in_order}
 use Rattle.world.proofs.noting.retirements_go_in_order.Goals as goal

@@ -1,5 +1,5 @@
 use Rattle.world.proofs.Fence.{laws_of}
-use Rattle.world.proofs.InOrder.{numbers_in_order}
+use Rattle.world.proofs.Counting.{numbers_in_order}
 use Rattle.world.proofs.numbering.board_gives_numbers_in_order.Goals as goal
 
 pub returns : goal.returns

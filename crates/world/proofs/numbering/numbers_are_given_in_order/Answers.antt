@@ -1,6 +1,5 @@
-use Rattle.world.proofs.Cited.{◌≡◌, ℕ, true, List, subst, Event, Config, Line}
+use Rattle.world.proofs.Cited.{◌≡◌, ℕ, true, List, subst, Event, Config, Line, WorldView, is_supported_at, fresh_world_at, world_after_lines, log_of}
 use Rattle.world.specs.Given.{IsCounted, ObjectsAreGivenOnce}
-use Rattle.world.specs.Steps.{WorldView, is_supported_at, fresh_world_at, world_after_lines, log_of}
 use Rattle.world.proofs.Promises.{start_of, in_flavour}
 use Rattle.world.proofs.numbering.numbers_are_given_in_order.Goals as goal
 

@@ -1,6 +1,5 @@
-use Rattle.world.proofs.Cited.{ℕ, ◌*◌, List, length, subst, All, Event}
+use Rattle.world.proofs.Cited.{ℕ, ◌*◌, List, length, subst, All, Event, WorldView, log_of}
 use Rattle.world.specs.Numbering.{IsNumberedWithin}
-use Rattle.world.specs.Steps.{WorldView, log_of}
 use Rattle.world.proofs.Promises.{start_of, in_flavour}
 use Rattle.world.proofs.numbering.numbers_count_lines.Goals as goal
 

@@ -1,6 +1,5 @@
-use Rattle.world.proofs.Cited.{List, subst, Event}
+use Rattle.world.proofs.Cited.{List, subst, Event, WorldView, log_of}
 use Rattle.world.specs.RunOrder.{RunInOrder}
-use Rattle.world.specs.Steps.{WorldView, log_of}
 use Rattle.world.proofs.Promises.{start_of, in_flavour}
 use Rattle.world.proofs.ordering.callbacks_run_in_the_order_of_their_queue.Goals as goal
 

@@ -1,8 +1,4 @@
-use Rattle.world.proofs.Cited.{◌≡◌, ◌+◌, ◌-◌, List, length, Result, Ok, Err, false, true≢false, inr, sym, ap, ◌∙◌, subst, refl, arith, vec_capacity, is_err, OnOk, Event, Worker, Plans, plans_of}
-use Rattle.world_state.specs.declared.line.WorkerVerb.TheVariants as verb
-use Rattle.world.specs.Drain.{drain_lines}
-use Rattle.world.specs.Lines.{outcome_of, world_after}
-use Rattle.world.specs.Shown.{shown, IsInRange}
+use Rattle.world.proofs.Cited.{◌≡◌, ◌+◌, ◌-◌, List, length, Result, Ok, Err, false, true≢false, inr, sym, ap, ◌∙◌, subst, refl, arith, vec_capacity, is_err, OnOk, Event, Worker, Plans, plans_of, WorkerVerb, drain_lines, outcome_of, world_after, shown, IsInRange}
 use Rattle.world.proofs.DrainSteps.{AreSound, all_go_on, Round, round, drained_none, tells, loop_first, drained}
 use Rattle.world.proofs.board.Board.drain.Given as given
 use Rattle.world.proofs.board.Board.drain.Goals.{In-loop, then-items-ge-END_OF_NUMBERS-via-then-items-ge-END_OF_NUMBERS, then-items-ge-END_OF_NUMBERS-via-else-items-ge-END_OF_NUMBERS+then-is_err}
@@ -53,7 +49,7 @@ loop-init g c =
     let old = shown c.args.self.now in
     let room = ok_holds c.reserve.result (sym c.is_err.ensures.value ∙ c.if-is_err.false) c.reserve.ensures.ok in
     loop_first (plans g) old c.args.worker c.in_ok-items.items (sym c.items_to_drain.ensures ∙ c.in_ok-items.was) (c.workers_rest.ensures old c.requires) (sound g) (omega (arith, c.if-items-eq0.false)) (shown c.work.new.self) c.steps_for-steps.result (vec_capacity c.work.new.self.kept.log)
-    c.steps_for-steps.ensures c.requires (c.work.ensures.world ∙ ap (λ (l : List Event). (outcome_of (plans g) (record old { log = l }) (Worker c.args.worker verb.Take)).world) c.reserve.ensures.items)
+    c.steps_for-steps.ensures c.requires (c.work.ensures.world ∙ ap (λ (l : List Event). (outcome_of (plans g) (record old { log = l }) (Worker c.args.worker WorkerVerb.Take)).world) c.reserve.ensures.items)
     (omega (arith, room, c.work.ensures.room, c.reserve.ensures.len, c.args.self.now.kept.log.ok))
 
 pub work-requires-in-loop-clause-range : goal.work-requires-in-loop-clause-range

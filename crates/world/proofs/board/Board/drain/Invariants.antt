@@ -1,7 +1,4 @@
-use Rattle.world.proofs.Cited.{◌+◌, ◌-◌, length, vec_capacity, plans_of}
-use Rattle.world.specs.Drain.{drain_lines}
-use Rattle.world.specs.Lines.{world_after}
-use Rattle.world.specs.Shown.{shown}
+use Rattle.world.proofs.Cited.{◌+◌, ◌-◌, length, vec_capacity, plans_of, drain_lines, world_after, shown}
 use Rattle.world.proofs.DrainSteps.{Under}
 use Rattle.world.proofs.board.Board.drain.Given as goal
 

@@ -1,17 +1,15 @@
-use Rattle.world.proofs.Cited.{refl, sym, subst, ◌≡◌, ℕ, rules, List, Some, Action, Starts, step_of, slice_get, WorkerState, SyncCore}
-use Rattle.call_rcu_worker.specs.declared.worker.WorkerCore.TheVariants.{Syncs}
-use Rattle.call_rcu_worker.specs.declared.sync.SyncStep.TheVariants.{Begin}
+use Rattle.world.proofs.Cited.{refl, sym, subst, ◌≡◌, ℕ, rules, List, Some, Action, Starts, step_of, slice_get, WorkerState, SyncCore, WorkerCore, SyncStep}
 use Rattle.world.proofs.board.Board.go_on_syncing.Goals as goal
 
 -- where a grace period is to begin, it starts
-starts_by_begin : {P C : Type 0} (action : P → Action) (sync : SyncCore P) → ((cookie : ℕ) → sync ≡ Starts cookie → C) → step_of action sync ≡ Begin → C
+starts_by_begin : {P C : Type 0} (action : P → Action) (sync : SyncCore P) → ((cookie : ℕ) → sync ≡ Starts cookie → C) → step_of action sync ≡ SyncStep.Begin → C
 starts_by_begin action (Starts cookie) then due = then cookie refl
 starts_by_begin action _ then due = search rules
 
 pub sync_at_once-requires-clause-start : goal.sync_at_once-requires-clause-start
 sync_at_once-requires-clause-start g c =
     let there = subst (λ (xs : List (WorkerState _)). slice_get xs c.args.worker ≡ Some c.in-Some.state.now) c.deref.ensures.value (sym c.in-Some.ensures) in
-    starts_by_begin _ c.in-Syncs.sync (λ cookie starts. c.requires.range.worker_starts c.args.worker c.in-Some.state.now cookie c.in-Syncs.tickets there (subst (λ (sync : SyncCore _). c.in-Some.state.now.core ≡ Syncs sync c.in-Syncs.tickets) starts c.in-Syncs.is))
+    starts_by_begin _ c.in-Syncs.sync (λ cookie starts. c.requires.range.worker_starts c.args.worker c.in-Some.state.now cookie c.in-Syncs.tickets there (subst (λ (sync : SyncCore _). c.in-Some.state.now.core ≡ WorkerCore.Syncs sync c.in-Syncs.tickets) starts c.in-Syncs.is))
 
 pub sync_at_once-requires-clause-groups : goal.sync_at_once-requires-clause-groups
 sync_at_once-requires-clause-groups g c =

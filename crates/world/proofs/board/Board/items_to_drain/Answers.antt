@@ -1,6 +1,5 @@
-use Rattle.world.proofs.Cited.{ℕ, ◌∙◌, slice_get, Ok, true≢false, sym, ap, subst}
+use Rattle.world.proofs.Cited.{ℕ, ◌∙◌, slice_get, Ok, true≢false, sym, ap, subst, shown}
 use Rattle.std.specs.Prelude.{IsTrue}
-use Rattle.world.specs.Shown.{shown}
 use Rattle.world.proofs.DrainSteps.{drains_fresh}
 use Rattle.world.proofs.board.Board.items_to_drain.Goals as goal
 

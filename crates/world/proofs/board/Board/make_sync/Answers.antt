@@ -1,13 +1,9 @@
-use Rattle.world.proofs.Cited.{refl, sym, subst, ◌∙◌, arith, ◌≡◌, Ok, Result, slice_get, slice_set, None, Refusal, GoOn, Change, Work, marked_life, acted_at, MayActAt, BoardView}
-use Rattle.world_state.specs.declared.line.Line.TheVariants as the_lines
-use Rattle.world.specs.Lines.{with_change}
-use Rattle.world.specs.Workers.{worker_act}
-use Rattle.world.specs.Shown.{shown}
+use Rattle.world.proofs.Cited.{refl, sym, subst, ◌∙◌, arith, ◌≡◌, Ok, Result, slice_get, slice_set, None, Refusal, GoOn, Change, Work, marked_life, acted_at, MayActAt, BoardView, Line, with_change, worker_act, shown}
 use Rattle.world.proofs.board.Board.make_sync.Goals as goal
 
 pub write_sync-requires : goal.write_sync-requires
 write_sync-requires g c =
-    let may = c.requires.range.may_make (let small = c.args.self.now.kept.log.small in let ok = c.args.self.now.kept.log.ok in omega (arith, small, ok)) (the_lines.Worker c.args.worker GoOn) _ c.requires.change in
+    let may = c.requires.range.may_make (let small = c.args.self.now.kept.log.small in let ok = c.args.self.now.kept.log.ok in omega (arith, small, ok)) (Line.Worker c.args.worker GoOn) _ c.requires.change in
     subst (λ (w : BoardView _). MayActAt (worker_act c.args.grace.seq c.args.state.core) (slice_get w.queues c.args.worker)) (sym c.in_ok-tell.ensures.ok) may
 
 pub returns : goal.returns

@@ -1,9 +1,7 @@
-use Rattle.world.proofs.Cited.{sym, subst}
+use Rattle.world.proofs.Cited.{sym, subst, shown, memb_plans, qsbr_plans, IsReachedWorld}
 use Rattle.world.specs.declared.world.Boards.{Boards}
 use Rattle.world.specs.declared.world.World.TheInside.{Inside}
 use Rattle.world.specs.Seen.{seen}
-use Rattle.world.specs.Shown.{shown}
-use Rattle.world.specs.Steps.{memb_plans, qsbr_plans, IsReachedWorld}
 use Rattle.world.proofs.DrainSteps.{memb_drain, qsbr_drain, reached_drain}
 use Rattle.world.proofs.Promises.{drain_log, drain_refused}
 use Rattle.world.proofs.world.World.drain.Goals.{in-Memb, in-Qsbr}

@@ -1,13 +1,9 @@
-use Rattle.world.proofs.Cited.{sym, subst, IfOk, Refusal, Answer}
+use Rattle.world.proofs.Cited.{sym, subst, IfOk, Refusal, Answer, shown, IsReached, OfMemb, OfQsbr, memb_plans, qsbr_plans, IsReachedWorld, IsPrompt, IsTested}
 use Rattle.world.specs.declared.world.Boards.{Boards}
 use Rattle.world.specs.declared.world.World.TheInside.{Inside}
 use Rattle.world.specs.Seen.{seen}
-use Rattle.world.specs.Shown.{shown}
-use Rattle.world.specs.Reached.{IsReached}
-use Rattle.world.specs.Steps.{OfMemb, OfQsbr, memb_plans, qsbr_plans, IsReachedWorld, IsPrompt}
-use Rattle.world.specs.Tests.{IsTested}
 use Rattle.std.specs.Prelude.{Result}
-use Rattle.world.proofs.Promises.{prompt_meets, reached_after, step_refused, log_meets, memb_alone, qsbr_alone, meets_tests}
+use Rattle.world.proofs.Promises.{prompt_meets, reached_after, step_refused, log_meets, meets_tests}
 use Rattle.world.proofs.Standing.{meets_standing, meets_blocked}
 use Rattle.world.proofs.world.World.step.Goals.{in-Memb, in-Qsbr}
 use Rattle.world.proofs.world.World.step.Goals as goal
@@ -36,11 +32,11 @@ returns-clause-tests c =
       | in-Memb w ↦
           let r : IsReached memb_plans (shown w.in-Memb.board) = subst Reached w.in-Memb.is c.self.invariant in
           let tested = subst (λ v. IsTested memb_plans v c.args.line.now) r.leads (c.tests_are_made_in_order.ensures r.config r.seq r.lines c.args.line.now r.limits r.even r.low) in
-          rw (← c.self.view_is, w.in-Memb.is, w.self-inside-is, w.result-is) (meets_tests memb_plans OfMemb memb_alone (shown w.in-Memb.board) (shown w.step.new.self) c.args.line.now tested w.step.result w.step.ensures)
+          rw (← c.self.view_is, w.in-Memb.is, w.self-inside-is, w.result-is) (meets_tests memb_plans OfMemb (λ v w same. cc) (shown w.in-Memb.board) (shown w.step.new.self) c.args.line.now tested w.step.result w.step.ensures)
       | in-Qsbr w ↦
           let r : IsReached qsbr_plans (shown w.in-Qsbr.board) = subst Reached w.in-Qsbr.is c.self.invariant in
           let tested = subst (λ v. IsTested qsbr_plans v c.args.line.now) r.leads (c.tests_are_made_in_order-2.ensures r.config r.seq r.lines c.args.line.now r.limits r.even r.low) in
-          rw (← c.self.view_is, w.in-Qsbr.is, w.self-inside-is, w.result-is) (meets_tests qsbr_plans OfQsbr qsbr_alone (shown w.in-Qsbr.board) (shown w.step-in-Qsbr.new.self) c.args.line.now tested w.step-in-Qsbr.result w.step-in-Qsbr.ensures)
+          rw (← c.self.view_is, w.in-Qsbr.is, w.self-inside-is, w.result-is) (meets_tests qsbr_plans OfQsbr (λ v w same. cc) (shown w.in-Qsbr.board) (shown w.step-in-Qsbr.new.self) c.args.line.now tested w.step-in-Qsbr.result w.step-in-Qsbr.ensures)
     ]
 
 pub returns-clause-log : goal.returns-clause-log
