@@ -7,24 +7,24 @@ use std::collections::HashMap;
 /// The names of the objects that were told: the first one that an answer tells is `o1`, the next one `o2`.
 #[derive(Drop)]
 pub(crate) struct Names {
-    of: HashMap<u64, u64>,
+    by_number: HashMap<u64, u64>,
 }
 
 impl Names {
     /// No object was told yet.
     pub(crate) fn new(alloc: Global) -> Names {
         Names {
-            of: HashMap::new(alloc),
+            by_number: HashMap::new(alloc),
         }
     }
 
     /// The name of an object, by its number.
     fn name(&mut self, object: u64) -> Result<u64, AllocError> {
-        if let Some(name) = self.of.get(&object) {
+        if let Some(name) = self.by_number.get(&object) {
             return Ok(*name);
         }
-        let name = (self.of.len() as u64).saturating_add(1);
-        self.of.insert(object, name)?;
+        let name = (self.by_number.len() as u64).saturating_add(1);
+        self.by_number.insert(object, name)?;
         Ok(name)
     }
 
