@@ -78,7 +78,7 @@ BUGS = [
     (
         "a search does not come round",
         "live_write/src/search.rt",
-        "None => take_from(rt, table, seat, 0, start),",
+        "None => take_from(rt, table, seat, 0, from),",
         "None => None,",
     ),
     (

@@ -34,8 +34,8 @@ impl<P: GracePlan + Drop, K: ChainRule, B: Site, D: Deleter> Domain<P, K, B, D> 
     /// tells the words that it found and stored: it takes one record, and the object has the record's next number.
     ///
     /// Refused with `PoolFull` only where it found each record in use, or with no number below 2^62 left for another
-    /// object; then it stored nothing. It waits for nobody, but tries again where other threads take and free the record
-    /// meanwhile.
+    /// object. Then it stored nothing. It waits for nobody, but tries again where another thread takes and frees a record
+    /// that it found free.
     pub fn alloc<W: Caller<B>, R: Wait>(
         &self,
         rt: &R,

@@ -1,8 +1,9 @@
 //! Who makes a call, and keeps what it has seen of the log.
 
-ghost use Rattle.std.specs.Prelude.{◌≡◌, []};
+ghost use Rattle.std.specs.Prelude.{◌≡◌, ◌<◌, ◌≤◌, []};
 
 use crate::reader::Reader;
+use crate::searches::Searches;
 use crate::site::Site;
 use gp_memb::GracePlan;
 use live_words::{ChainRule, LiveSeat, LiveTable};
@@ -10,7 +11,7 @@ use std::marker::PhantomData;
 
 /// Who makes a call, and keeps what it has seen of the log: a handle, or a reader.
 pub trait Caller<B: Site> {
-    ghost use Rattle.std.specs.Prelude.{◌≡◌, List, [], ◌++◌};
+    ghost use Rattle.std.specs.Prelude.{◌≡◌, ◌<◌, ◌≤◌, List, [], ◌++◌};
     ghost use Rattle.atomic_table.specs.Seated.{TableId};
     ghost use Rattle.live_log.specs.Log.{Log};
     ghost use Rattle.live_words.specs.live_rule.Views.{bare};
@@ -40,11 +41,27 @@ pub trait Caller<B: Site> {
     /// Of a reader, that its section of the log is open in what it has seen. It says nothing of a handle.
     ghost is_in: { Self → Type 0 };
 
-    /// Where its next search for a free record begins: each call answers another number. Those of another caller differ,
-    /// so that searches of two threads seldom meet.
-    fn search_from(&mut self) -> u64
+    /// The searches of another caller, which begin elsewhere.
+    fn split_searches(&mut self) -> Searches
         ensures same { KeepsAll seen heard loads looks standing changes self.old self.new }
         ensures inside { is_in self.old → is_in self.new };
+
+    /// At which record of a pool of this size its next search for a free one begins. A place that is the size itself
+    /// names no record. Where records are free, searches of two threads seldom meet.
+    fn search_from(&mut self, pool: usize) -> usize
+        ensures place { result ≤ pool }
+        ensures same { KeepsAll seen heard loads looks standing changes self.old self.new }
+        ensures inside { is_in self.old → is_in self.new };
+
+    /// Its search took this record. Most often the next one goes on behind it.
+    fn search_behind(&mut self, cell: usize)
+        ensures same { KeepsAll seen heard loads looks standing changes self.old self.new }
+        ensures inside { is_in self.old → is_in self.new };
+
+    /// Which of eight shards of a lock it reads by, so that two threads seldom read by one; crossbeam goes by a thread's
+    /// index. It stays. Eight callers that one caller made in turn have different ones.
+    fn shard(&self) -> usize
+        ensures { result < 8 };
 
     /// A seat that has seen and heard as much, and has no right and has found nothing.
     fn tell<P: GracePlan, K: ChainRule>(&mut self, table: &LiveTable<P, K>) -> LiveSeat
@@ -75,29 +92,8 @@ pub trait Caller<B: Site> {
         ensures inside { is_in self.old → is_in self.new };
 }
 
-/// The odd number that spreads searches: 2^64 divided by the golden ratio.
-const SPREAD: u64 = 11_400_714_819_323_198_485;
-
-/// Where the searches of a caller begin: each goes on from the one before.
-#[derive(Clone, Copy, Drop)]
-pub(crate) struct Searches(u64);
-
-impl Searches {
-    /// Those of the caller with this number. By two factors its searches begin far from those of other callers, which
-    /// take steps of one.
-    pub(crate) fn of(number: u64) -> Searches {
-        Searches(number.wrapping_mul(SPREAD).wrapping_mul(SPREAD))
-    }
-
-    /// Where the next one begins.
-    fn next(&mut self) -> u64 {
-        self.0 = self.0.wrapping_add(SPREAD);
-        self.0
-    }
-}
-
 /// What a thread that has no reader has seen of the log: its seat, which has no bytes. It keeps where its searches for a
-/// free record begin.
+/// free record begin, and its shard.
 #[derive(Drop)]
 pub struct Handle<B: Site> {
     pub(crate) seat: LiveSeat,
@@ -116,7 +112,7 @@ impl<B: Site> Handle<B> {
     {
         Handle {
             seat,
-            searches: Searches::of(0),
+            searches: Searches::new(),
             site: PhantomData,
         }
     }
@@ -130,7 +126,7 @@ impl<B: Site> Handle<B> {
         ensures told { (result.seat.me.0.seen ≡ W.seen caller.old) × (result.seat.me.0.heard ≡ W.heard caller.old) }
         ensures same { IsAsBefore W.Caller caller.old caller.new }
     {
-        let searches = Searches::of(caller.search_from());
+        let searches = caller.split_searches();
         Handle {
             seat: caller.tell(table),
             searches,
@@ -157,8 +153,20 @@ impl<B: Site> Caller<B> for Handle<B> {
 
     ghost is_in = { λ r. ⊤ };
 
-    fn search_from(&mut self) -> u64 {
-        self.searches.next()
+    fn split_searches(&mut self) -> Searches {
+        self.searches.split()
+    }
+
+    fn search_from(&mut self, pool: usize) -> usize {
+        self.searches.start(pool)
+    }
+
+    fn search_behind(&mut self, cell: usize) {
+        self.searches.took(cell);
+    }
+
+    fn shard(&self) -> usize {
+        self.searches.shard()
     }
 
     fn tell<P: GracePlan, K: ChainRule>(&mut self, table: &LiveTable<P, K>) -> LiveSeat {
@@ -197,8 +205,20 @@ impl<P: GracePlan, K: ChainRule, B: Site> Caller<B> for Reader<P, K, B> {
 
     ghost standing = { λ r. record { slot = r.core.slot; word = r.core.word; ordinal = count_in r.core.seat.me.0.slot; depth = r.core.depth; locks = r.core.locks } };
 
-    fn search_from(&mut self) -> u64 {
-        self.core.searches.next()
+    fn split_searches(&mut self) -> Searches {
+        self.searches.split()
+    }
+
+    fn search_from(&mut self, pool: usize) -> usize {
+        self.searches.start(pool)
+    }
+
+    fn search_behind(&mut self, cell: usize) {
+        self.searches.took(cell);
+    }
+
+    fn shard(&self) -> usize {
+        self.searches.shard()
     }
 
     fn tell<Q: GracePlan, L: ChainRule>(&mut self, table: &LiveTable<Q, L>) -> LiveSeat {

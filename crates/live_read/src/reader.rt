@@ -10,6 +10,7 @@ ghost use Rattle.live_words.specs.live_rule.Rights.{IsOwner, count_in, word_in};
 use crate::caller::Caller;
 use crate::held::Held;
 use crate::reader_core::ReaderCore;
+use crate::searches::Searches;
 use crate::section::Section;
 use crate::site::Site;
 use crate::telling::tell_all;
@@ -24,6 +25,7 @@ use std::sync::Arc;
 pub struct Reader<P: GracePlan, K: ChainRule, B: Site> {
     /// What it is and does, by its own table.
     pub(crate) core: ReaderCore<P, K>,
+    pub(crate) searches: Searches,
     pub(crate) site: PhantomData<B>,
     pub ghost named: { (core.seat.table_id ≡ B.table) × (core.seat.me.0.sizes ≡ B.sizes) },
 }
@@ -36,13 +38,14 @@ impl<P: GracePlan, K: ChainRule, B: Site> Reader<P, K, B> {
     ghost use Rattle.live_read.specs.Reads.{FindsFirst, HasWord, HasWords, HoldsFirst, HoldsLast, HoldsNext, Looks};
     ghost use Rattle.live_read.specs.Sections.{Announces, BeginsSection, ClosesSection, EndsSection, GoesOffline, GoesOnline, CannotOpen, MayNotAnnounce, MayNotBegin, MayNotGoOnline};
 
-    /// This reader, with the name of its table.
-    pub(crate) fn of(core: ReaderCore<P, K>) -> Reader<P, K, B>
+    /// This reader, with the name of its table, and what its searches begin by.
+    pub(crate) fn of(core: ReaderCore<P, K>, searches: Searches) -> Reader<P, K, B>
         requires { (core.seat.table_id ≡ B.table) × (core.seat.me.0.sizes ≡ B.sizes) }
         ensures { result.core ≡ core }
     {
         Reader {
             core,
+            searches,
             site: PhantomData,
         }
     }

@@ -7,7 +7,6 @@ ghost use Rattle.reader_word.specs.declared.layout.Layout.TheVariants.{Wide};
 ghost use Rattle.reader_word.specs.Word.{count_of};
 ghost use Rattle.live_words.specs.live_rule.Rights.{IsOwner, word_in};
 
-use crate::caller::Searches;
 use crate::flavour::Flavour;
 use gp_memb::GracePlan;
 use live_words::{
@@ -31,7 +30,6 @@ pub struct ReaderCore<P: GracePlan, K: ChainRule> {
     pub(crate) word: u64,
     pub(crate) depth: u64,
     pub(crate) locks: u64,
-    pub(crate) searches: Searches,
     pub(crate) flavour: Flavour<P>,
     pub ghost seated: { (seat.table_id ≡ (arc_value table).words.shared.table_id) × (seat.me.0.sizes ≡ (arc_value table).words.shared.key) × (seat.me.1 ≡ []) },
     pub(crate) ghost owns: { IsOwner seat.me.0 slot × (word_in seat.me.0.slot ≡ word) × (slot < (arc_value table).slots) },
@@ -61,7 +59,6 @@ impl<P: GracePlan, K: ChainRule> ReaderCore<P, K> {
             word,
             depth: 0,
             locks: 0,
-            searches: Searches::of(slot as u64 + 1),
             flavour: Flavour::new(),
         }
     }

@@ -119,9 +119,10 @@ impl<P: GracePlan, K: ChainRule, B: Site> Reader<P, K, B> {
         ensures caller { Stays W.Caller caller.old caller.new × (W.loads caller.new ≡ W.loads caller.old) }
     {
         let own = another_owner(rt, table);
+        let searches = caller.split_searches();
         let seat = caller.tell(table);
         match ReaderCore::register(own, seat) {
-            Ok(core) => Ok(Reader::of(core)),
+            Ok(core) => Ok(Reader::of(core, searches)),
             Err(seat) => {
                 caller.learn(table, seat);
                 Err(Refusal::NoSlot)

@@ -1,6 +1,6 @@
 //! Each step on records and chains once, at concrete types of both flavours. The tables have one slot, one chain, no
-//! queue and four records: the chain's head is word 88, its hold word 89, its note 90, the last object number word 112,
-//! and record i begins at word 6 i + 128.
+//! queue and four records: the chain's head is word 88, its hold word 89, its note 90, and record i begins at word
+//! 6 i + 112.
 
 ghost use Rattle.std.specs.Prelude.{◌≡◌, ◌<◌, IsTrue};
 ghost use Rattle.live_words.specs.live_rule.Rights.{IsFresh, cell_in};
@@ -25,10 +25,10 @@ fn fresh_record<P: GracePlan>(
     ensures fresh { IsTrue result → IsFresh seat.new.me.0 × (cell_in seat.new.me.0.object ≡ cell) }
 {
     let header = load_header(table, seat, cell);
-    if header % 4 != 0 || header / 4 + 2 * table.pool as u64 > 1 << 62 {
+    let number = next_number(table, cell, header);
+    if header % 4 != 0 || number >= 1 << 62 {
         return false;
     }
-    let number = next_number(table, cell, header);
     take_cell(table, seat, cell, header, number) == header
 }
 

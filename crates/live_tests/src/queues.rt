@@ -1,7 +1,7 @@
 //! Queues: what is retired, what is refused once a queue is closed, who works for a queue, and barriers. The tables
 //! have one slot, one chain, one queue and four records: the queued count is word 104, the closed word 105, and the
 //! hold word of the queue's worker word 121. A record's first object has the number 4 and the record's more. The first
-//! search of a handle begins at the last record, and the second at the first one.
+//! search of a handle begins at the last record, and the second goes on at the first one.
 
 ghost use Rattle.std.specs.Prelude.{◌≡◌, []};
 ghost use Rattle.live_words.specs.live_rule.Views.{first_view};

@@ -1,5 +1,5 @@
-//! Records allocated and discarded, in both flavours. The tables have one slot, no chain and no queue: the last object
-//! number is word 104, and record i begins at word 6 i + 120.
+//! Records allocated and discarded, in both flavours. The tables have one slot, no chain and no queue: record i
+//! begins at word 6 i + 104.
 
 ghost use Rattle.std.specs.Prelude.{◌≡◌, ◌<◌, []};
 ghost use Rattle.std.specs.Thread.{IsSync};

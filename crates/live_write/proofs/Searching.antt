@@ -1,10 +1,16 @@
 -- Searches one after the other, and what they found.
-use Rattle.live_write.proofs.Cited.{HasNext, Looked, next_number, stores_then, ◌/◌, Bool, Option, None, Some, IfNone, ◌≡◌, ℕ, ◌+◌, ◌<◌, ◌≤◌, List, [], ◌++◌, sym, refl, ap, ◌∙◌, subst, arith, lt_of_not-le, append_assoc, dite, ℕ_discrete, dec_le, Me, LiveEvent, Begins, Log, Look, Sizes, View, RecordRight, Fresh, cell_at, link_in, payload_in, IsLater, found_left, found_right, begins_trans}
+use Rattle.live_write.proofs.Cited.{HasNext, Looked, stores_then, Bool, Option, None, Some, IfNone, ◌≡◌, ℕ, ◌+◌, ◌<◌, ◌≤◌, List, [], ◌++◌, sym, refl, ap, ◌∙◌, subst, arith, lt_of_not-le, append_assoc, dite, ℕ_discrete, dec_le, Me, LiveEvent, Begins, Log, Look, Sizes, View, RecordRight, Fresh, cell_at, link_in, payload_in, IsLater, found_left, found_right, begins_trans}
 use Rattle.live_write.specs.Searching.{AreTaken, IsTaken, Searched, StoresNothing, Takes, TakesRecord}
 
 -- a record taken after a search that stored nothing
 pub record_then : (key : Sizes) (i n : ℕ) (found more : List Look) → StoresNothing found → TakesRecord key i n more → TakesRecord key i n (more ++ found)
-record_then key i n found more none took = (found_left more found (cell_at key i 0) (λ word. HasNext key word × (n ≡ next_number key i (word / 4))) took.0, stores_then found more [] _ none took.1)
+record_then key i n found more none took = record {
+  word = took.word;
+  before = took.before ++ found;
+  taken = ap (λ (l : List Look). l ++ found) took.taken;
+  free = took.free;
+  only = stores_then found took.before [] [] none took.only;
+}
 
 module _ {S : Type 0} (qsbr : Bool) (allows : Log → LiveEvent → Type 0) where
   -- what the right to an object is after a search
@@ -35,14 +41,14 @@ module _ {S : Type 0} (qsbr : Bool) (allows : Log → LiveEvent → Type 0) wher
 -- one more record was found in use
 pub taken_more : (key : Sizes) (found more : List Look) (from to : ℕ) → ((i : ℕ) → from ≤ i → i < to → IsTaken key found i) → IsTaken key more to → (i : ℕ) → from ≤ i → i < to + 1 → IsTaken key (more ++ found) i
 taken_more key found more from to all one i low high = dite (ℕ_discrete i to)
-    (λ e. subst (λ (j : ℕ). IsTaken key (more ++ found) j) (sym e) (found_left more found (cell_at key to 0) (λ word. ¬ HasNext key word) one))
-    (λ ne. found_right more found (cell_at key i 0) (λ word. ¬ HasNext key word) (all i low (omega arith)))
+    (λ e. subst (λ (j : ℕ). IsTaken key (more ++ found) j) (sym e) (found_left more found (cell_at key to 0) (λ word. ¬ HasNext key to word) one))
+    (λ ne. found_right more found (cell_at key i 0) (λ word. ¬ HasNext key i word) (all i low (omega arith)))
 
 -- all records were, first those from the middle on
 pub taken_all : (key : Sizes) (found more : List Look) (middle : ℕ) → ((i : ℕ) → middle ≤ i → i < key.pool → IsTaken key found i) → ((i : ℕ) → 0 ≤ i → i < middle → IsTaken key more i) → AreTaken key (more ++ found)
 taken_all key found more middle high low i within = dite (dec_le middle i)
-    (λ up. found_right more found (cell_at key i 0) (λ word. ¬ HasNext key word) (high i up within))
-    (λ not. let under = lt_of_not-le not in found_left more found (cell_at key i 0) (λ word. ¬ HasNext key word) (low i (omega arith) under))
+    (λ up. found_right more found (cell_at key i 0) (λ word. ¬ HasNext key i word) (high i up within))
+    (λ not. let under = lt_of_not-le not in found_left more found (cell_at key i 0) (λ word. ¬ HasNext key i word) (low i (omega arith) under))
 
 -- what follows from what a clause says where there is no value
 pub if_none : {A : Type 0} {P Q : Type 0} (r : Option A) → IfNone r P → (P → Q) → IfNone r Q

@@ -5,7 +5,7 @@ use Rattle.rcu_model.specs.declared.event.ObjectId.{ObjectId}
 use Rattle.live_log.specs.declared.event.LiveEvent.{LiveEvent}
 use Rattle.live_log.specs.Log.{Log}
 use Rattle.live_words.specs.live_rule.declared.view.Look.{Look}
-use Rattle.live_words.specs.live_rule.declared.view.Look.TheVariants.{Stored}
+use Rattle.live_words.specs.live_rule.declared.view.Look.TheVariants.{Loaded, Stored}
 use Rattle.live_words.specs.live_rule.declared.view.Sizes.{Sizes}
 use Rattle.live_words.specs.live_rule.declared.view.View.{View}
 use Rattle.live_words.specs.live_rule.declared.rights.RecordRight.{RecordRight}
@@ -18,7 +18,7 @@ use Rattle.live_read.specs.declared.caller.Caller.{Ghosts}
 
 -- the record was found in use, or with no number left for another object
 abbrev pub IsTaken : Sizes → List Look → ℕ → Type 0
-IsTaken key found i = FoundIn found (cell_at key i 0) (λ word. ¬ HasNext key word)
+IsTaken key found i = FoundIn found (cell_at key i 0) (λ word. ¬ HasNext key i word)
 
 -- each record was
 abbrev pub AreTaken : Sizes → List Look → Type 0
@@ -32,9 +32,13 @@ freed_look key x = Stored (cell_at key (cell_in x) 0) (free_word (object_in x).0
 abbrev pub StoresNothing : List Look → Type 0
 StoresNothing found = stores_in found ≡ []
 
--- this record was found free, and taken for the object that has its next number: nothing else was stored
-abbrev pub TakesRecord : Sizes → ℕ → ℕ → List Look → Type 0
-TakesRecord key i n found = FoundIn found (cell_at key i 0) (λ word. HasNext key word × (n ≡ next_number key i (word / 4))) × (stores_in found ≡ (cell_at key i 0, fresh_word n) ∷ [])
+-- At last this record was found free, and taken for the object that has its next number. Nothing was stored before.
+pub record TakesRecord (key : Sizes) (i n : ℕ) (found : List Look) : Type 0 where
+  pub word : ℕ
+  pub before : List Look
+  pub taken : found ≡ Stored (cell_at key i 0) (fresh_word n) ∷ Loaded (cell_at key i 0) word ∷ before
+  pub free : HasNext key i word × (n ≡ next_number key i (word / 4))
+  pub only : StoresNothing before
 
 -- these words were found for a caller, and so the record with this right was taken
 abbrev pub TakesFor : {W S : Type 0} → Ghosts W S → Sizes → W → W → RecordRight → Type 0

@@ -1,6 +1,6 @@
 //! How records are allocated and discarded.
 
-ghost use Rattle.std.specs.Prelude.{◌≡◌, ◌<◌, ◌^◌, List, ◌++◌, ◌∷◌, IfErr, IfOk, length};
+ghost use Rattle.std.specs.Prelude.{◌≡◌, ◌<◌, ◌≤◌, ◌^◌, List, ◌++◌, ◌∷◌, IfErr, IfOk, length};
 ghost use Rattle.rcu_model.specs.declared.refusal.Refusal.TheVariants.{PoolFull};
 ghost use Rattle.live_log.specs.Log.{Begins, Log};
 ghost use Rattle.live_words.specs.live_rule.declared.view.Look.{Look};
@@ -44,10 +44,10 @@ fn take_filled<P: GracePlan, K: ChainRule, R: Wait>(
     rt: &R,
     table: &LiveTable<P, K>,
     seat: &mut LiveSeat,
-    from: u64,
+    from: usize,
     words: [u64; 4],
 ) -> Result<(usize, u64), Refusal>
-    requires seat { (seat.old.table_id ≡ table.now.words.shared.table_id) × (seat.old.me.0.sizes ≡ table.now.words.shared.key) }
+    requires seat { (seat.old.table_id ≡ table.now.words.shared.table_id) × (seat.old.me.0.sizes ≡ table.now.words.shared.key) × (from ≤ table.now.pool) }
     ensures seat { Keeps seat.old seat.new }
     ensures taken { IfOk result (λ taken. (taken.0 < table.now.pool) × (taken.1 < 2 ^ 62) × Allocates P.QSBR K.allows table.now.words.shared.key taken.0 taken.1 words seat.old.me seat.new.me) }
     ensures refused { IfErr result (λ e. (e ≡ PoolFull) × (found : List Look) × Searched P.QSBR K.allows found seat.old.me.0.object seat.old.me seat.new.me × GetsNoRecord table.now.words.shared.key found) }
@@ -64,9 +64,9 @@ fn take_filled<P: GracePlan, K: ChainRule, R: Wait>(
 /// Takes a free record for a new object, whose payload these words become. The caller hears of what it saw. `looks`
 /// tells the words that it found and stored: it takes one record, and the object has the record's next number.
 ///
-/// Refused with `PoolFull` only where it found each record in use, or with no number below 2^62 left for another object;
-/// then it stored nothing. It takes no memory. It waits for nobody, but tries again where other threads take and free
-/// the record meanwhile.
+/// Refused with `PoolFull` only where it found each record in use, or with no number below 2^62 left for another
+/// object. Then it stored nothing. It takes no memory. It waits for nobody, but tries again where another thread takes
+/// and frees a record that it found free.
 pub fn alloc<P: GracePlan, K: ChainRule, B: Site, W: Caller<B>, R: Wait>(
     rt: &R,
     table: &LiveTable<P, K>,
@@ -80,12 +80,13 @@ pub fn alloc<P: GracePlan, K: ChainRule, B: Site, W: Caller<B>, R: Wait>(
     ensures heard { IsAfter P.QSBR K.allows (W.seen caller.old) (W.heard caller.old) (W.heard caller.new) }
     ensures same { Stays W.Caller caller.old caller.new × (W.loads caller.new ≡ W.loads caller.old) }
 {
-    let from = caller.search_from();
+    let from = caller.search_from(table.pool);
     let mut seat = caller.tell(table);
     let taken = take_filled(rt, table, &mut seat, from, words);
     let own = table.cut_object(&mut seat);
     caller.learn(table, seat);
     let (cell, number) = taken?;
+    caller.search_behind(cell);
     Ok(Owned {
         seat: own,
         cell,

@@ -1,8 +1,8 @@
 //! The search for a free record.
 
-ghost use Rattle.std.specs.Prelude.{◌≡◌, ℕ, ◌<◌, ◌≤◌, ◌^◌, ◌↔◌, List, IfNone, IfSome, IsTrue};
+ghost use Rattle.std.specs.Prelude.{◌≡◌, ℕ, ◌/◌, ◌<◌, ◌≤◌, ◌^◌, List, IfNone, IfSome};
 ghost use Rattle.live_words.specs.live_rule.declared.view.Look.{Look};
-ghost use Rattle.live_words.specs.live_rule.Objects.{HasNext};
+ghost use Rattle.live_words.specs.live_rule.Objects.{HasNext, next_number};
 ghost use Rattle.live_words.specs.live_rule.Steps.{IsLater, Keeps};
 ghost use Rattle.live_write.specs.Searching.{AreTaken, GetsNoRecord, IsTaken, Searched, StoresNothing, Takes};
 
@@ -13,11 +13,21 @@ use std::sync::Wait;
 /// Each object has a number below this.
 const NUMBERS: u64 = 4_611_686_018_427_387_904;
 
-/// Whether a record with this header is free, and has a number left for another object.
-fn has_next<P: GracePlan, K: ChainRule>(table: &LiveTable<P, K>, header: u64) -> bool
-    ensures { IsTrue result ↔ HasNext table.now.words.shared.key header }
+/// The number of the next object of a record with this header, where the record is free and the number is below 2^62.
+fn next_in<P: GracePlan, K: ChainRule>(
+    table: &LiveTable<P, K>,
+    cell: usize,
+    header: u64,
+) -> Option<u64>
+    requires { cell < table.now.pool }
+    ensures next { IfSome result (λ n. (n ≡ next_number table.now.words.shared.key cell (header / 4)) × HasNext table.now.words.shared.key cell header) }
+    ensures none { IfNone result (¬ HasNext table.now.words.shared.key cell header) }
 {
-    header % 4 == 0 && header / 4 + 2 * table.pool as u64 <= NUMBERS
+    if header % 4 != 0 {
+        return None;
+    }
+    let number = next_number(table, cell, header);
+    if number < NUMBERS { Some(number) } else { None }
 }
 
 /// Takes a record for a new object, if it is free, and answers the object's number. It exchanges a header only where it
@@ -36,10 +46,9 @@ fn take_if_free<P: GracePlan, K: ChainRule, R: Wait>(
 {
     let mut header = load_header(table, seat, cell);
     for _ in rt.forever() {
-        if !has_next(table, header) {
+        let Some(number) = next_in(table, cell, header) else {
             return None;
-        }
-        let number = next_number(table, cell, header);
+        };
         let found = take_cell(table, seat, cell, header, number);
         if found == header {
             return Some(number);
@@ -72,24 +81,22 @@ fn take_from<P: GracePlan, K: ChainRule, R: Wait>(
     None
 }
 
-/// Takes a free record for a new object, or finds that each is taken. It begins at a place that the 16 highest bits of
-/// `from` choose, so that threads do not search along the same records. Answers the record, and its object's number.
+/// Takes a free record for a new object, or finds that each is taken. It looks from this place to the pool's end, and
+/// then at the records before it. Answers the record, and its object's number.
 pub(crate) fn take_any<P: GracePlan, K: ChainRule, R: Wait>(
     rt: &R,
     table: &LiveTable<P, K>,
     seat: &mut LiveSeat,
-    from: u64,
+    from: usize,
 ) -> Option<(usize, u64)>
-    requires seat { (seat.old.table_id ≡ table.now.words.shared.table_id) × (seat.old.me.0.sizes ≡ table.now.words.shared.key) }
+    requires seat { (seat.old.table_id ≡ table.now.words.shared.table_id) × (seat.old.me.0.sizes ≡ table.now.words.shared.key) × (from ≤ table.now.pool) }
     requires later { IsLater P.QSBR K.allows seat.old.me.0 seat.old.me.0 }
     ensures seat { Keeps seat.old seat.new }
     ensures taken { IfSome result (λ t. (t.0 < table.now.pool) × (t.1 < 2 ^ 62) × Takes P.QSBR K.allows table.now.words.shared.key t.1 t.0 seat.old.me seat.new.me) }
     ensures none { IfNone result ((found : List Look) × Searched P.QSBR K.allows found seat.old.me.0.object seat.old.me seat.new.me × GetsNoRecord table.now.words.shared.key found) }
 {
-    // A pool may be empty, and what divides is not 0; where `start` is the whole pool, the second search goes over it.
-    let start = (from >> 48) as usize % (table.pool + 1);
-    match take_from(rt, table, seat, start, table.pool) {
+    match take_from(rt, table, seat, from, table.pool) {
         Some(taken) => Some(taken),
-        None => take_from(rt, table, seat, 0, start),
+        None => take_from(rt, table, seat, 0, from),
     }
 }

@@ -1,5 +1,5 @@
 -- What the keys of buckets tell that are taken one after the other.
-use Rattle.rcu_hash.proofs.Cited.Words.{IsFreeWord, free_word, ◌≡◌, ◌≢◌, ℕ, ◌+◌, ◌%◌, ◌<◌, ◌≤◌, ◌==◌, Bool, false, if◌then◌else◌, List, [], ◌∷◌, ◌++◌, length, Some, slice_get, refl, sym, ap, subst, inl, inr, ⊎_elim, arith, cases_lt, dite, ℕ_discrete, In, in_append, in_left, LiveEvent, Log, Begins, begins_trans, hold_at, Look, Loaded, Stored, Sizes, IsAfter, Ghosts, value_among, During, FindsFree, FindsTaken, IsInUse, IsUnused, IsAmong, are_apart, Refusal, PoolFull, cell_at, stores_in, GetsNoRecord, TakesRecord, FreesAll, FreesAllBut, IsLeftFree, OnlyFrees, nat_tests, common_steps, gets, Option, Looked, GivesUp, KeepsNone, OnlyHears, Stays, stays_both}
+use Rattle.rcu_hash.proofs.Cited.Words.{IsFreeWord, free_word, fresh_word, ◌∙◌, ◌≡◌, ◌≢◌, ℕ, ◌+◌, ◌%◌, ◌<◌, ◌≤◌, ◌==◌, Bool, false, if◌then◌else◌, List, [], ◌∷◌, ◌++◌, length, Some, slice_get, refl, sym, ap, subst, inl, inr, ⊎_elim, arith, cases_lt, dite, ℕ_discrete, In, in_append, in_left, LiveEvent, Log, Begins, begins_trans, hold_at, Look, Loaded, Stored, Sizes, IsAfter, Ghosts, value_among, During, FindsFree, FindsTaken, IsInUse, IsUnused, IsAmong, are_apart, Refusal, PoolFull, cell_at, stores_in, GetsNoRecord, TakesRecord, FreesAll, FreesAllBut, IsLeftFree, OnlyFrees, nat_tests, common_steps, gets, Option, Looked, GivesUp, KeepsNone, OnlyHears, Stays, stays_both}
 use Rattle.rcu_hash.proofs.Copies.{found_before, found_more}
 use Rattle.rcu_hash.proofs.Holds.{looks_both}
 
@@ -104,11 +104,15 @@ module _ (key : Sizes) where
   pub but_weaker : (kept all : List ℕ) → ((i : ℕ) → In kept i → In all i) → (found : List Look) → FreesAllBut key kept found → FreesAllBut key all found
   but_weaker kept all goes found h i = ⊎_elim (λ (was : In kept i). inl (goes i was)) (λ free. inr free) (h i)
 
+  -- of a search that took a record, that is the one store
+  stores_of : (cell n : ℕ) (found : List Look) → TakesRecord key cell n found → stores_in found ≡ (cell_at key cell 0, fresh_word n) ∷ []
+  stores_of cell n found took = ap stores_in took.taken ∙ ap (λ (l : List (ℕ × ℕ)). (cell_at key cell 0, fresh_word n) ∷ l) took.only
+
   -- a search that has a record keeps that one; one that has none, none
   pub keeps_one : (cell n : ℕ) (found : List Look) → TakesRecord key cell n found → FreesAllBut key (cell ∷ []) found
   keeps_one cell n found took i = dite (ℕ_discrete cell i)
       (λ is. inl (inl is))
-      (λ apart. inr (subst (IsLeftFree (cell_at key i 0)) (sym took.1) (inr (λ (same : cell_at key cell 0 ≡ cell_at key i 0). apart (omega (arith, same)), tt))))
+      (λ apart. inr (subst (IsLeftFree (cell_at key i 0)) (sym (stores_of cell n found took)) (inr (λ (same : cell_at key cell 0 ≡ cell_at key i 0). apart (omega (arith, same)), tt))))
 
   none_taken : (found : List Look) → GetsNoRecord key found → FreesAll key found
   none_taken found none i = subst (IsLeftFree (cell_at key i 0)) (sym none.1) tt

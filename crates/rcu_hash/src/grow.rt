@@ -226,7 +226,7 @@ impl<'d, P: GracePlan + Drop, B: Site, D: Deleter> RcuHash<'d, P, B, D> {
     /// the table's, or had a writer, linked an object or had a note other than 0 during the call. Else it is refused with
     /// `Memory` where memory is, or with `PoolFull` where there is no record for a key or for the directory. It made no
     /// change then, and each record that it took is free again. It waits for the table's locks, and for no grace period,
-    /// but tries again where other threads draw object numbers meanwhile.
+    /// but tries again where another thread takes and frees a record that it found free.
     pub fn grow<W: Caller<B>, R: Wait>(
         &self,
         rt: &R,

@@ -66,7 +66,7 @@ impl<'d, P: GracePlan + Drop, B: Site, D: Deleter> RcuHash<'d, P, B, D> {
     /// Refused with `BadConfig` where the number of buckets is not 1 to 4,096, a chain is not there or the directory's
     /// chain is one of the buckets', or a chain had a writer, linked an object or had a note other than 0 during the
     /// call. Else it is refused with `Memory` where memory is, or with `PoolFull` where there is no record. It waits for
-    /// nobody, but tries again where other threads draw object numbers meanwhile.
+    /// nobody, but tries again where another thread takes and frees a record that it found free.
     pub fn new<W: Caller<B>, R: Wait>(
         rt: &R,
         alloc: Global,
@@ -171,7 +171,7 @@ impl<'d, P: GracePlan + Drop, B: Site, D: Deleter> RcuHash<'d, P, B, D> {
     ///
     /// Refused with `Exists` only where the key had a value in some log of the call, else with `PoolFull` where its
     /// bucket's ranks are used up, or as `alloc`; then it made no change. It waits for the locks of the table alone,
-    /// but tries again where other threads draw object numbers meanwhile.
+    /// but tries again where another thread takes and frees a record that it found free.
     pub fn insert<W: Caller<B>, R: Wait>(
         &self,
         rt: &R,
@@ -184,7 +184,7 @@ impl<'d, P: GracePlan + Drop, B: Site, D: Deleter> RcuHash<'d, P, B, D> {
         ensures same { IfOk result (λ _. TakesOneRecord W.Caller caller.old caller.new B.sizes) }
         ensures refused { IfErr result (λ e. RefusesInsertionThrough W.Caller P.QSBR tabled B.sizes caller.old caller.new e self.now.directory key) }
     {
-        let array = self.array.read(rt, key as usize);
+        let array = self.array.read(rt, caller.shard());
         let (mut place, mut bucket) = self.take(rt, &array, key);
         let answer = bucket.insert(rt, caller, key, value);
         *place = Some(bucket);
@@ -197,7 +197,8 @@ impl<'d, P: GracePlan + Drop, B: Site, D: Deleter> RcuHash<'d, P, B, D> {
     ///
     /// Refused with `Missing` only where the key had no value in some log of the call, else as `alloc`, else as
     /// `retire`; then it made no change, the callback comes back, and the new record is back in the pool. It waits for
-    /// the locks of the table and of the queue, and tries again where other threads draw object numbers meanwhile.
+    /// the locks of the table and of the queue, and tries again where another thread takes and frees a record that it
+    /// found free.
     pub fn replace<W: Caller<B>, R: Wait>(
         &self,
         rt: &R,
@@ -210,7 +211,7 @@ impl<'d, P: GracePlan + Drop, B: Site, D: Deleter> RcuHash<'d, P, B, D> {
         ensures same { IfOk result (λ _. TakesOneRecord W.Caller caller.old caller.new B.sizes) }
         ensures refused { IfErr result (λ e. (e.1 ≡ callback) × RefusesReplacementThrough W.Caller P.QSBR tabled B.sizes caller.old caller.new e.0 self.now.directory key) }
     {
-        let array = self.array.read(rt, key as usize);
+        let array = self.array.read(rt, caller.shard());
         let (mut place, mut bucket) = self.take(rt, &array, key);
         let answer = bucket.replace(rt, caller, key, value, callback);
         *place = Some(bucket);
@@ -234,7 +235,7 @@ impl<'d, P: GracePlan + Drop, B: Site, D: Deleter> RcuHash<'d, P, B, D> {
         ensures same { IfOk result (λ _. (W.looks caller.new ≡ W.looks caller.old) × (W.loads caller.new ≡ W.loads caller.old)) }
         ensures refused { IfErr result (λ e. (e.1 ≡ callback) × RefusesRemovalThrough W.Caller P.QSBR tabled B.sizes caller.old caller.new e.0 self.now.directory key) }
     {
-        let array = self.array.read(rt, key as usize);
+        let array = self.array.read(rt, caller.shard());
         let (mut place, mut bucket) = self.take(rt, &array, key);
         let answer = bucket.remove(rt, caller, key, callback);
         *place = Some(bucket);

@@ -90,7 +90,7 @@ impl<'d, P: GracePlan + Drop, K: MapRule, B: Site, D: Deleter> RcuList<'d, P, K,
     ///
     /// Refused with `Exists` exactly where the key has a value, else with `PoolFull` where the ranks are used up, or as
     /// `alloc`. Then the map is as it was, and the caller hears of it as `hear` tells. It waits for nobody, but tries
-    /// again where other threads draw object numbers meanwhile.
+    /// again where another thread takes and frees a record that it found free.
     pub fn insert<W: Caller<B>, R: Wait>(
         &mut self,
         rt: &R,
@@ -123,7 +123,8 @@ impl<'d, P: GracePlan + Drop, K: MapRule, B: Site, D: Deleter> RcuList<'d, P, K,
     ///
     /// Refused with `Missing` exactly where the key has no value, else as `alloc`, else as `retire`. Then the map is as
     /// it was, the callback comes back, and the new record is back in the pool. The caller hears of the map as `hear`
-    /// tells. It waits for the queue's lock alone, and tries again where other threads draw object numbers meanwhile.
+    /// tells. It waits for the queue's lock alone, and tries again where another thread takes and frees a record that it
+    /// found free.
     pub fn replace<W: Caller<B>, R: Wait>(
         &mut self,
         rt: &R,

@@ -46,7 +46,7 @@ fn fresh_rank<P: GracePlan + Drop, K: MapRule, B: Site, D: Deleter>(
 /// A record for a key that has no value, which a push makes the first of the chain: its rank is above all others.
 ///
 /// Refused with `Exists` exactly where the key has a value, else with `PoolFull` where the ranks are used up, or as
-/// `alloc`. It waits for nobody, but tries again where other threads draw object numbers meanwhile.
+/// `alloc`. It waits for nobody, but tries again where another thread takes and frees a record that it found free.
 pub fn prepare_insertion<
     P: GracePlan + Drop,
     K: MapRule,
@@ -80,7 +80,7 @@ pub fn prepare_insertion<
 /// The index of a key that has a value, and a record that takes its place, with the key, its rank and this value.
 ///
 /// Refused with `Missing` exactly where the key has no value, else as `alloc`. It waits for nobody, but tries again
-/// where other threads draw object numbers meanwhile.
+/// where another thread takes and frees a record that it found free.
 pub fn prepare_replacement<
     P: GracePlan + Drop,
     K: MapRule,

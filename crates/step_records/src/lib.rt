@@ -1,6 +1,6 @@
 #![tactic(auto)]
-//! The steps on records: object numbers, headers, and the links and payload words of those that no chain has linked
-//! yet.
+//! The steps on records: headers, which number objects, and the links and payload words of those that no chain has
+//! linked yet.
 
 mod fates;
 mod plays;

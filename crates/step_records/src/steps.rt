@@ -2,7 +2,7 @@
 //! no part of the log. What `store_link` and `store_word` would store they load first.
 ghost use Rattle.std.specs.Prelude.{◌≡◌, ◌≢◌, ◌+◌, ◌/◌, ◌<◌, ◌^◌};
 ghost use Rattle.live_rule.specs.Places.{cell_at};
-ghost use Rattle.live_rule.specs.Objects.{HasNext, IsFreeWord, free_word, fresh_word, next_number};
+ghost use Rattle.live_rule.specs.Objects.{IsFreeWord, free_word, fresh_word, next_number};
 ghost use Rattle.live_rule.specs.Seats.{but_object};
 ghost use Rattle.live_rule.specs.Rights.{IsFresh, KnowsChains, cell_in, object_in};
 ghost use Rattle.live_rule.specs.Steps.{Keeps, Went, looked_view, stored_view};
@@ -42,15 +42,15 @@ pub fn load_number<P: GracePlan, K: ChainRule>(
     table.words.shared.load::<LooksNumber<P, K>>(seat, place) / 4
 }
 
-/// The number of the next object of a free record with this header. No two objects have one number, since each of a
-/// record has the record's own number modulo the pool.
+/// The number of a free record's next object. Numbers of one record grow by the pool, and each has the record's own
+/// number as its remainder. So no two objects have one number.
 pub fn next_number<P: GracePlan, K: ChainRule>(
     table: &LiveTable<P, K>,
     cell: usize,
     header: u64,
 ) -> u64
-    requires { (cell < table.now.pool) × HasNext table.now.words.shared.key header }
-    ensures { (result ≡ next_number table.now.words.shared.key cell (header / 4)) × (result < 2 ^ 62) }
+    requires { cell < table.now.pool }
+    ensures { result ≡ next_number table.now.words.shared.key cell (header / 4) }
 {
     let last = header / 4;
     let pool = table.pool as u64;
@@ -61,9 +61,9 @@ pub fn next_number<P: GracePlan, K: ChainRule>(
     }
 }
 
-/// Takes a record for a new object, whose number is the record's next one, if the record's header is still this one, of
-/// a free record. Answers the header that it found: the record was taken exactly where that is the same, and its link
-/// and payload are what was left there. What it found is kept among the looks, and what it stored.
+/// Takes a free record, where its header is still this one. Its new object has the record's next number. Answers the
+/// header that it found: the record was taken exactly where that is the same. Its link and payload are what was left
+/// there. What it found is kept among the looks, and what it stored.
 pub fn take_cell<P: GracePlan, K: ChainRule>(
     table: &LiveTable<P, K>,
     seat: &mut LiveSeat,

@@ -37,7 +37,7 @@ pub use Rattle.rcu_list.specs.live_read.Sections.{IsIn}
 pub use Rattle.rcu_list.specs.live_read.declared.caller.Caller.{Ghosts}
 pub use Rattle.rcu_list.specs.live_read.declared.reader_core.ReaderCore.{ReaderCore}
 pub use Rattle.rcu_list.specs.live_rule.Places.{hold_at, cell_at, closed_at}
-pub use Rattle.rcu_list.specs.live_rule.Objects.{IsFreeWord, free_word}
+pub use Rattle.rcu_list.specs.live_rule.Objects.{IsFreeWord, free_word, fresh_word}
 pub use Rattle.rcu_list.specs.live_rule.Rights.{IsListed, own_in, IsWriter, cell_in, object_in, payload_in, AreAsKnown}
 pub use Rattle.rcu_list.specs.live_rule.Seats.{lent_chains}
 pub use Rattle.rcu_list.specs.live_rule.Steps.{Went, stores_in, Keeps}

@@ -10,8 +10,8 @@ returns-in_err-cell-clause-looks g c = let p = err_from_is_err_and c.from_residu
 
 pub returns-clause-took : goal.returns-clause-took
 returns-clause-took g c =
-    let a = c.in_ok-cell.ensures.taken.2 in let l = c.learn.ensures.loads.1 in let tell = c.tell-seat.ensures in let cut = c.cut_object-own.ensures in
+    let a = c.in_ok-cell.ensures.taken.2 in let l = c.search_behind.ensures.same.3 ∙ c.learn.ensures.loads.1 in let tell = c.tell-seat.ensures in let cut = c.cut_object-own.ensures in
     let own = ap (λ (m : Me CallbackId View). m.0.looks) cut.2 ∙ (ap (λ (v : View). v.looks) a.1.1 ∙ (ap (λ (xs : List Look). a.0 ++ xs) (ap (λ (m : Me CallbackId View). m.0.looks) tell.seat.1) ∙ append-nil a.0)) in
     let object = ap (λ (m : Me CallbackId View). m.0.object) cut.4 ∙ ap (λ (v : View). v.object) a.1.1 in
-    subst (TakesFor g.W.Caller g.B.Site.sizes c.args.caller.now c.learn.new.self) (sym object)
+    subst (TakesFor g.W.Caller g.B.Site.sizes c.args.caller.now c.search_behind.new.self) (sym object)
     (a.0, l ∙ (λ i. own i ++ (tell.same.3 ∙ c.search_from-from.ensures.same.3) i), subst (λ (k : Sizes). TakesRecord k c.in_ok-cell.cell c.in_ok-cell.number a.0) c.requires.site.1 a.2)

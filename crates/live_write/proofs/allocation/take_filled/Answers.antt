@@ -5,7 +5,7 @@ use Rattle.live_write.proofs.allocation.take_filled.Goals as goal
 pub returns-in_default-clause-refused : goal.returns-in_default-clause-refused
 returns-in_default-clause-refused g c = let n = c.in_default.ensures.none in let m = c.args.seat.now.me in let key = c.args.table.now.words.shared.key in
     let all = searched_then g.P.GracePlan.QSBR g.K.ChainRule.allows [] n.0 m.0.object (λ y. y) m c.load_present.new.seat.me c.take_any.new.seat.me (searched_none g.P.GracePlan.QSBR g.K.ChainRule.allows m c.load_present.new.seat.me c.load_present.ensures.looked) n.1 in
-    (refl, n.0 ++ [], all, ((λ i low. found_left n.0 [] (cell_at key i 0) (λ word. ¬ HasNext key word) (n.2.0 i low)), stores_then [] n.0 [] [] refl n.2.1))
+    (refl, n.0 ++ [], all, ((λ i low. found_left n.0 [] (cell_at key i 0) (λ word. ¬ HasNext key i word) (n.2.0 i low)), stores_then [] n.0 [] [] refl n.2.1))
 
 pub returns-clause-taken : goal.returns-clause-taken
 returns-clause-taken g c = let t = c.in-Some.ensures.taken in let m = c.args.seat.now.me in let w = c.take_any.new.seat.me in let e = c.fill.new.seat.me in

@@ -11,7 +11,7 @@ returns-in-Err-clause-refused g c =
       refl,
       record {
         found = r.found;
-        looks = c.learn.ensures.loads.1 ∙ (ap (λ (l : List Look). l ++ g.W.Caller.looks c.tell-seat.new.self) now ∙ ap (λ (l : List Look). r.found ++ l) c.tell-seat.ensures.same.3);
+        looks = c.learn.ensures.loads.1 ∙ (ap (λ (l : List Look). l ++ g.W.Caller.looks c.tell-seat.new.self) now ∙ ap (λ (l : List Look). r.found ++ l) (c.tell-seat.ensures.same.3 ∙ c.split_searches-searches.ensures.same.3));
         claimed = subst (λ (k : Sizes). AllWereClaimed k r.found) key r.is_so;
         none_stored = r.none_stored;
       },

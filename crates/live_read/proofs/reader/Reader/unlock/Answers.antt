@@ -3,4 +3,4 @@ use Rattle.live_read.proofs.Naming.{same_reader}
 use Rattle.live_read.proofs.reader.Reader.unlock.Goals as goal
 
 pub returns-clause-same : goal.returns-clause-same
-returns-clause-same g c = IfErr-weaker c.unlock.result _ _ (λ e same. same_reader _ c.args.self.now same refl) c.unlock.ensures.same
+returns-clause-same g c = IfErr-weaker c.unlock.result _ _ (λ e same. same_reader _ c.args.self.now same refl refl) c.unlock.ensures.same
