@@ -43,7 +43,7 @@ pub fn load_number<P: GracePlan, K: ChainRule>(
 }
 
 /// The number of a free record's next object. Numbers of one record grow by the pool, and each has the record's own
-/// number as its remainder. So no two objects have one number.
+/// number as its remainder modulo the pool. So no two objects have one number.
 pub fn next_number<P: GracePlan, K: ChainRule>(
     table: &LiveTable<P, K>,
     cell: usize,
