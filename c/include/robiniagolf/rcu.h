@@ -1,8 +1,8 @@
 /* Robiniagolf's RCU for C99: readers that take no lock, and grace periods that wait for them.
  *
- * Two flavours: memb, whose grace periods wait for read-side sections, and qsbr, whose grace periods wait for a
- * quiescent state of each reader that is online. Two layers: the waiting part, which is what most programs want, and
- * below it the handles, whose calls are proved. docs/C.md tells what is proved of each, and what C has to keep to.
+ * It has two flavours. Grace periods of memb wait for read-side sections. Grace periods of qsbr wait for a quiescent
+ * state of each reader that is online. It has two layers. Most programs want the waiting part. Below it lie the
+ * handles, whose calls are proved. docs/C.md tells what is proved of each, and what C has to keep to.
  *
  *     robiniagolf_memb_register_thread();
  *     robiniagolf_memb_read_lock();
@@ -26,12 +26,12 @@ extern "C" {
 
 /* ---- The waiting part ------------------------------------------------------------------------------------------
  *
- * One domain for the whole program and each flavour, made at the first call. These calls may lock, wait, allocate and
- * start a thread. Where they can't go on (no memory for a reader, more than 16,192 threads, a wait within the caller's
- * own section) they say so on standard error and abort. */
+ * The first call makes one domain of its flavour for the whole program. These calls may lock, wait, allocate and start
+ * a thread. Where they can't go on they say so on standard error and abort: without memory for a reader, with more than
+ * 16,192 threads, and at a wait within the caller's own section. */
 
-/* Makes the calling thread a reader, of qsbr an online one. A thread that ends is unregistered; one that is registered
- * already stays so. A memb thread may leave this out: its first lock does it. */
+/* Makes the calling thread a reader, of qsbr an online one. A thread that is registered already stays so, and a thread
+ * that ends is unregistered. A memb thread may leave this out: its first lock does it. */
 void robiniagolf_memb_register_thread(void);
 void robiniagolf_qsbr_register_thread(void);
 
@@ -39,8 +39,9 @@ void robiniagolf_qsbr_register_thread(void);
 void robiniagolf_memb_unregister_thread(void);
 void robiniagolf_qsbr_unregister_thread(void);
 
-/* A read-side section, which nests. It takes no lock and never waits. A registered thread may also have one in a signal
- * handler. The two of qsbr do nothing: there a thread is in a section while it is online. */
+/* Begin and end a read-side section, which nests. They take no lock and never wait, but for a first lock that registers
+ * the thread. A registered thread may also have a section in a signal handler. The two of qsbr do nothing: there a
+ * thread is in a section while it is online. */
 void robiniagolf_memb_read_lock(void);
 void robiniagolf_memb_read_unlock(void);
 void robiniagolf_qsbr_read_lock(void);
@@ -50,14 +51,15 @@ void robiniagolf_qsbr_read_unlock(void);
 int robiniagolf_memb_read_ongoing(void);
 int robiniagolf_qsbr_read_ongoing(void);
 
-/* Of qsbr: the thread holds nothing that it has read; it reads nothing until it is back; it is back. A thread announces
- * quiescent states often, and goes offline before it blocks. */
+/* Of qsbr alone. quiescent_state says that the thread holds nothing that it has read. thread_offline says the same, and
+ * that the thread reads nothing until thread_online. A thread announces quiescent states often, and goes offline before
+ * it blocks. */
 void robiniagolf_qsbr_quiescent_state(void);
 void robiniagolf_qsbr_thread_offline(void);
 void robiniagolf_qsbr_thread_online(void);
 
-/* Waits until each section has ended that was open when it was called. Not within a section; a qsbr thread may be
- * online, and holds nothing that it has read. */
+/* Waits until each section has ended that was open when it was called. The caller is in no section. A qsbr thread may
+ * be online all the same, and holds nothing that it has read. */
 void robiniagolf_memb_synchronize_rcu(void);
 void robiniagolf_qsbr_synchronize_rcu(void);
 
@@ -67,9 +69,10 @@ struct robiniagolf_head {
     void (*call)(struct robiniagolf_head *head);
 };
 
-/* Has call(head) called after a grace period, by one thread of the library, in the order of the calls of one thread.
- * It never fails or allocates, waits for no grace period, and may be called in a section or by a callback. A callback
- * may read and wait. The first call starts that thread, under a lock; where it can't, a later call tries again. */
+/* One thread of the library calls call(head) after a grace period. It calls what one thread gave it in the order in
+ * which that thread gave it. call_rcu never fails or allocates, waits for no grace period, and may be called in a
+ * section or by a callback. A callback may read and wait. The first call_rcu starts the library's thread, under a lock;
+ * where it can't, a later one tries again. */
 void robiniagolf_memb_call_rcu(struct robiniagolf_head *head, void (*call)(struct robiniagolf_head *head));
 void robiniagolf_qsbr_call_rcu(struct robiniagolf_head *head, void (*call)(struct robiniagolf_head *head));
 
@@ -89,13 +92,13 @@ bool robiniagolf_qsbr_poll_state_synchronize_rcu(struct robiniagolf_poll state);
 
 /* ---- The handles -----------------------------------------------------------------------------------------------
  *
- * No call of a handle waits, locks, prints or starts a thread. Each answers one of the numbers below. What they ask of
- * their caller nothing checks:
+ * No call of a handle waits, locks, prints or starts a thread. Each answers one of the numbers below. Nothing checks
+ * what they ask of their caller:
  *
  * - A handle is all zeros (it keeps nothing), or as the last call with it left it, and of the kind that the call names.
  *   Nothing else writes it, and after it was copied only the copy, or only the original, is used.
  * - One call at a time has a handle. Another thread may use it after a lock, a thread's start or join, or a seq_cst
- *   atomic has handed it over: so a domain in which several threads register lies under a lock of the caller's.
+ *   atomic has handed it over. So a domain in which several threads register lies under a lock of the caller's.
  * - A signal handler may lock and unlock the reader of the thread that it interrupts, in any call of that reader but
  *   register and unregister. It closes what it opens.
  * - No pointer is null. malloc and free are of one allocator, which aligns blocks as C asks.
@@ -129,7 +132,7 @@ uint32_t robiniagolf_memb_domain_new(struct robiniagolf_memb_domain *domain, str
 uint32_t robiniagolf_qsbr_domain_new(struct robiniagolf_qsbr_domain *domain, struct robiniagolf_qsbr_grace *grace,
                                      size_t slots);
 
-/* Empties a handle: DONE, EMPTY. Readers and the other handle go on; what they share is freed with the last. */
+/* Empties a handle: DONE, EMPTY. Readers and the other handle go on. What they share is freed with the last of them. */
 uint32_t robiniagolf_memb_domain_free(struct robiniagolf_memb_domain *domain);
 uint32_t robiniagolf_qsbr_domain_free(struct robiniagolf_qsbr_domain *domain);
 uint32_t robiniagolf_memb_grace_free(struct robiniagolf_memb_grace *grace);
@@ -146,7 +149,8 @@ uint32_t robiniagolf_qsbr_reader_register(struct robiniagolf_qsbr_domain *domain
 uint32_t robiniagolf_memb_reader_unregister(struct robiniagolf_memb_reader *reader);
 uint32_t robiniagolf_qsbr_reader_unregister(struct robiniagolf_qsbr_reader *reader);
 
-/* One more lock: DONE, EMPTY, NEST_FULL; of qsbr also NOT_OPEN (offline). One fewer: DONE, EMPTY, NOT_OPEN. */
+/* lock opens one more lock: DONE, EMPTY, NEST_FULL; of qsbr also NOT_OPEN (the reader is offline). unlock closes the
+ * last one: DONE, EMPTY, NOT_OPEN. */
 uint32_t robiniagolf_memb_reader_lock(struct robiniagolf_memb_reader *reader);
 uint32_t robiniagolf_qsbr_reader_lock(struct robiniagolf_qsbr_reader *reader);
 uint32_t robiniagolf_memb_reader_unlock(struct robiniagolf_memb_reader *reader);
@@ -160,8 +164,8 @@ uint32_t robiniagolf_qsbr_reader_end(struct robiniagolf_qsbr_reader *reader);
 uint64_t robiniagolf_memb_reader_depth(struct robiniagolf_memb_reader *reader);
 uint64_t robiniagolf_qsbr_reader_depth(struct robiniagolf_qsbr_reader *reader);
 
-/* Of qsbr: DONE, EMPTY; online also BUSY (it is online); offline and quiescent also BUSY (a lock is open) and NOT_OPEN
- * (it is offline). is_online: DONE (it is), NOT_OPEN (it is not), EMPTY. */
+/* Of qsbr alone. online: DONE, EMPTY, BUSY (it is online already). offline and quiescent: DONE, EMPTY, BUSY (a lock is
+ * open), NOT_OPEN (it is offline). is_online: DONE (it is online), NOT_OPEN (it is offline), EMPTY. */
 uint32_t robiniagolf_qsbr_reader_online(struct robiniagolf_qsbr_reader *reader);
 uint32_t robiniagolf_qsbr_reader_offline(struct robiniagolf_qsbr_reader *reader);
 uint32_t robiniagolf_qsbr_reader_quiescent(struct robiniagolf_qsbr_reader *reader);
@@ -176,7 +180,7 @@ uint32_t robiniagolf_memb_grace_poll(struct robiniagolf_memb_grace *grace, uint6
 uint32_t robiniagolf_qsbr_grace_poll(struct robiniagolf_qsbr_grace *grace, uint64_t cookie);
 
 /* Takes the next step of the grace period that is going, or begins one, unless the cookie is reached: DONE, GO_ON,
- * IN_THE_WAY, EMPTY, EXHAUSTED. Any caller's steps lead to any cookie. */
+ * IN_THE_WAY, EMPTY, EXHAUSTED. Steps of any caller lead to the cookies of all. */
 uint32_t robiniagolf_memb_grace_step(struct robiniagolf_memb_grace *grace, uint64_t cookie);
 uint32_t robiniagolf_qsbr_grace_step(struct robiniagolf_qsbr_grace *grace, uint64_t cookie);
 

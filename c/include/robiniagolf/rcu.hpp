@@ -3,8 +3,8 @@
 //
 //     struct config : robiniagolf::rcu_obj_base<config> { .. };
 //
-//     std::scoped_lock region(robiniagolf::rcu_default_domain());       the reader: what it loads stays until the end
-//     use(*current.load());                                             of its block
+//     std::scoped_lock region(robiniagolf::rcu_default_domain());       the reader: what it loads in the region
+//     use(*current.load());                                             stays until the region ends
 //
 //     current.exchange(new config(..))->retire();                       the updater: deleted when no region has it
 //
@@ -18,9 +18,9 @@
 //   If an evaluation that schedules F does not strongly happen before the start of a region R on the same domain, then
 //   the end of R strongly happens before the evaluation of F. So no region meets what F has reclaimed.
 //   Each scheduled evaluation is evaluated at most once, and may run concurrently with any other.
-//   Here: exactly once, unless the process ends first. It is in a thread of the library, in the order in which one
-//   thread scheduled, and never in a call of `retire`, `rcu_retire` or `unlock`. So a deleter may take a lock that a
-//   caller of those holds. It may itself open regions, retire, and call `rcu_synchronize`.
+//   Here: exactly once, unless the process ends first. A thread of the library evaluates, in the order in which one
+//   thread scheduled. No call of `retire`, `rcu_retire` or `unlock` evaluates anything. So a deleter may take a lock
+//   that a caller of those holds. It may itself open regions, retire, and call `rcu_synchronize`.
 #ifndef ROBINIAGOLF_RCU_HPP
 #define ROBINIAGOLF_RCU_HPP
 
@@ -106,8 +106,8 @@ inline void rcu_synchronize(rcu_domain& dom = rcu_default_domain()) noexcept {
 ///
 /// A call implies no `rcu_synchronize`, nor the other way about.
 ///
-/// Here: within a region of the caller's own, or in a scheduled evaluation, it might wait for itself, so it says so on
-/// standard error and does not wait. At the end of `main` it lets all deleters run before statics are destroyed.
+/// Here: within a region of the caller's own, or in a scheduled evaluation, it might wait for itself. So it says on
+/// standard error that it does not wait. At the end of `main` it lets all deleters run before statics are destroyed.
 inline void rcu_barrier(rcu_domain& dom = rcu_default_domain()) noexcept {
     static_cast<void>(dom);
     ::robiniagolf_memb_barrier();
@@ -179,8 +179,8 @@ private:
 /// [saferecl.rcu.base]: a class T whose objects are retired without allocation derives from `rcu_obj_base<T, D>`.
 ///
 /// T may be incomplete here, and is complete before a member is named. D is a function object type that is
-/// Cpp17DefaultConstructible and Cpp17MoveAssignable, and `d(p)` is valid for a `d` of type D and a `p` of type `T*`.
-/// If D is trivially copyable, so is this class. A specialization that a program adds is undefined behavior.
+/// Cpp17DefaultConstructible and Cpp17MoveAssignable. `d(p)` is valid for a `d` of type D and a `p` of type `T*`. If D
+/// is trivially copyable, so is this class. A specialization that a program adds is undefined behavior.
 ///
 /// Here: an object is larger by two pointers and a D; an empty D takes no room. A copy of an object may be retired
 /// like any other, also if the original was. To copy a whole object while another thread retires it is a data race, for
@@ -198,9 +198,9 @@ public:
     /// Effects: evaluates `deleter = std::move(d)`, and schedules `deleter(addressof(x))` in `dom`. If that exits via
     /// an exception, the behavior is undefined.
     ///
-    /// Here: allocates nothing and waits for no grace period. An exception of the two calls std::terminate. Where D
-    /// moves without an exception, `deleter` is moved out of x and then called, so that it may use its state after it
-    /// has destroyed x.
+    /// Here: allocates nothing and waits for no grace period. An exception of the assignment or of the deleter calls
+    /// std::terminate. Where D moves without an exception, `deleter` is moved out of x and then called. So it may use
+    /// its state after it has destroyed x.
     void retire(D d = D(), rcu_domain& dom = rcu_default_domain()) noexcept {
         static_assert(std::is_base_of_v<rcu_obj_base, T>, "retire: T must derive from rcu_obj_base<T, D>");
         static_assert(std::is_convertible_v<T*, rcu_obj_base*>,
