@@ -27,8 +27,8 @@ extern "C" {
 /* ---- The waiting part ------------------------------------------------------------------------------------------
  *
  * The first call makes one domain of its flavour for the whole program. These calls may lock, wait, allocate and start
- * a thread. Where they can't go on they say so on standard error and abort: without memory for a reader, with more than
- * 16,192 threads, and at a wait within the caller's own section. */
+ * a thread. Where they can't go on they say so on standard error and abort. That happens without memory for a reader,
+ * with more than 16,192 threads, and at a wait within the caller's own section. */
 
 /* Makes the calling thread a reader, of qsbr an online one. A thread that is registered already stays so, and a thread
  * that ends is unregistered. A memb thread may leave this out: its first lock does it. */
