@@ -67,7 +67,7 @@ struct robiniagolf_verdict {
     uint32_t rule;   /* NO: the rule that is broken, 3 for D3 (sections) to 8 for D8 (asks and barriers) */
     size_t event;    /* YES: how many events there are. NO: the first that breaks its rule, counted from 1 */
     uint64_t line;   /* BAD_TEXT: the line, counted from 1 */
-    size_t column;   /* BAD_TEXT: its first byte that no good line has there, or the place after a line with no end */
+    size_t column;   /* BAD_TEXT: its first byte with which no line goes on, or the place after a line with no end */
 };
 
 /* Makes a judge that was fed nothing, and keeps it in the handle. YES where it is made. MEMORY, and IN_USE where the
