@@ -532,7 +532,7 @@ extern const struct rcu_flavor_struct urcu_mb_flavor, urcu_memb_flavor, urcu_qsb
 	{                                                                                                              \
 		name##_fill(LARGE, 0);                                                                                 \
 	}                                                                                                              \
-	/* Each of the threads has keys, and so buckets, of its own. */                                                \
+	/* Each of the threads has keys of its own, one after another. */                                              \
 	static void name##_insert(void)                                                                                \
 	{                                                                                                              \
 		pthread_once(&once, name##_fill_none);                                                                 \
@@ -540,7 +540,7 @@ extern const struct rcu_flavor_struct urcu_mb_flavor, urcu_memb_flavor, urcu_qsb
 		urcu_##name##_register_thread();                                                                       \
 		for (unsigned long i = 0; i < count; i++) {                                                            \
 			urcu_##name##_read_lock();                                                                     \
-			add_entry(i * threads + hand);                                                                 \
+			add_entry(hand * count + i);                                                                   \
 			urcu_##name##_read_unlock();                                                                   \
 		}                                                                                                      \
 		urcu_##name##_unregister_thread();                                                                     \

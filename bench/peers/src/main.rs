@@ -194,13 +194,13 @@ fn insert(table: &Table, key: u64) {
 }
 
 /// What one of the threads does with a table.
-fn part_of_table(kind: &str, table: &Table, count: u64, hand: u64, threads: u64) {
+fn part_of_table(kind: &str, table: &Table, count: u64, hand: u64) {
     match kind {
         "hit" => look_up(table, FEW - 1, 0, count),
         "miss" => look_up(table, FEW - 1, OTHERS, count),
         "hit-large" => look_up(table, MANY, 0, count),
         "miss-large" => look_up(table, MANY, OTHERS, count),
-        "insert" => repeat(count, |number| insert(table, number * threads + hand)),
+        "insert" => repeat(count, |number| insert(table, hand * count + number)),
         _ => repeat(count, |number| {
             insert(table, number ^ OTHERS);
             table.write().unwrap_or_else(PoisonError::into_inner).remove(&(number ^ OTHERS));
@@ -219,7 +219,7 @@ fn run_table(kind: &str, count: u64, threads: usize) {
     thread::scope(|scope| {
         (0..threads as u64).for_each(|hand| {
             let table = &table;
-            scope.spawn(move || part_of_table(kind, table, count, hand, threads as u64));
+            scope.spawn(move || part_of_table(kind, table, count, hand));
         });
     });
 }

@@ -157,17 +157,16 @@ fn ticks(clock: &AtomicU64, done: &AtomicBool) -> u64 {
     u64::MAX
 }
 
-/// Gives this many keys a value each: the first key, and then each key that lies a step further.
+/// Gives this many keys a value each, from the first key on.
 fn insertions<P: GracePlan + Drop, B: Site, R: Wait>(
     rt: &R,
     map: &Map<'_, P, B>,
     record: &mut Handle<B>,
     count: u64,
     first: u64,
-    step: u64,
 ) -> Result<u64, Refusal> {
     for number in 0..count {
-        let key = number.wrapping_mul(step).wrapping_add(first);
+        let key = number.wrapping_add(first);
         put(rt, map, record, key, key)?;
     }
     Ok(count)
@@ -226,8 +225,7 @@ fn hand<P: GracePlan + Drop, B: Site, R: Wait>(
             measured.map,
             record,
             count,
-            number as u64,
-            measured.hands as u64,
+            (number as u64).wrapping_mul(count),
         ),
         (OnTable::Remove, _) => removals(rt, measured.map, record, count),
         (OnTable::Grow, _) => growths(rt, alloc, measured, record, count),
@@ -278,7 +276,7 @@ pub(crate) fn on_table<
     let (domain, mut record) = opened.into_domain::<B, RoundDone>(alloc)?;
     let home = &domain;
     let map = table(rt, alloc, home, &mut record, operation.buckets())?;
-    insertions(rt, &map, &mut record, operation.keys(), 0, 1)?;
+    insertions(rt, &map, &mut record, operation.keys(), 0)?;
     let root = Mutex::new(record);
     let measured = Measured {
         domain: home,
