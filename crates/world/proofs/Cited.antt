@@ -51,7 +51,7 @@ pub use Rattle.std.specs.Option.{option_map_or, option_or, unwrap_or}
 pub use Rattle.std.specs.Prelude.{All, IfErr, IfOk, OnOk, is_err}
 pub use Rattle.world.specs.Answers.{answer_to, one}
 pub use Rattle.world.specs.Chains.{cut_row, first_row, linked_by, next_from, next_object, next_row, published, push_row, pushed_row, replace_row, replaced_row, writes}
-pub use Rattle.world.specs.Drain.{AreMade, AreMadeFrom, Drains, HasDrained, IsSettled, IsWork, MeetsDrain, Tells, drain_lines, is_busy, items_in, items_to_drain, some_open, steps_for, steps_in, steps_with}
+pub use Rattle.world.specs.Drain.{AreMade, AreMadeFrom, Drains, HasDrained, IsSettled, MeetsDrain, Tells, drain_lines, is_busy, items_in, items_to_drain, some_open, steps_for, steps_in, steps_with}
 pub use Rattle.world.specs.Grace.{action_effect, done_with, grace_row, is_blocked, is_waiting, loaded_word, lock_effect, place_at, plan_now, planned, poll_row, start_row, stepped, sync_place, sync_row}
 pub use Rattle.world.specs.Lines.{Outcome, change_of, grace_change, in_section, is_idle, of_memb, of_qsbr, of_reader, of_updater, of_worker, operation_test, outcome_of, reader_line}
 pub use Rattle.world.specs.Lines.{reader_on, reader_verb, reads_on, row_of, updater_line, updater_on, updater_verb, updates_on, with_change, worker_line, worker_verb, works_on, world_after}
