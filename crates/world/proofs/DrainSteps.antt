@@ -1,5 +1,5 @@
 -- A drain's steps: where a worker stands alone, its next line is made, and leads to where it stands with one step less.
-use Rattle.world.proofs.Cited.{nil_from_length, ◌≡◌, ◌≢◌, ◌↔◌, ℕ, zero, suc, ◌+◌, ◌*◌, ◌%◌, ◌^◌, ◌<◌, ◌≤◌, ltb, cond_both, Bool, true, false, not, List, [], ◌∷◌, length, length-append, slice_get, slice_set, Option, Some, None, Result, Ok, refl, sym, ap, ◌∙◌, subst, arith, or_parts, le-leb, lt-leb, lt-ltb, ltb-true, ltb-false, Refusal, Layout, Narrow, Wide, Item, items_of, after_advance, Action, Load, StoreSeq, Finished, after_loads, FinishesAfter, each_turn, turn_at, turn_count, went_on, SyncCore, WorkerCore, rest_of, turned, is_finished, Change, Work, Answer, Quiet, Worker, Mark, QueueAct, QueueState, ReaderState, GraceState, Holder, WorkerState, acted, changed_at, is_open_in, Items, Plans, BoardView, told, ◌-◌, cond, replicate, Err, ne_eqb, Busy, Exhausted, get_or_from_slice_get, none_some, empty_queue_state, inl, inr, MembPlan, QsbrPlan, Line, Turn, WorkerVerb, stepped, loaded_word, action_effect, lock_effect, done_with, plan_now, operation_test, change_of, with_change, outcome_of, world_after, IsPrompt, IsMade, OfMemb, OfQsbr, memb_plans, qsbr_plans, worked, worker_on, with_core, is_resting, is_none_left, some_open, steps_for, drain_lines, is_busy, items_in, items_to_drain, steps_with, HasDrained, AreMadeFrom, Tells, Drains, IsSettled, AreMade, MeetsDrain, IsReached, slice_get_within, slice_get-get_or, length-set, get_or-set_same}
+use Rattle.world.proofs.Cited.{start, after_all, nil_from_length, ◌≡◌, ◌≢◌, ◌↔◌, ℕ, zero, suc, ◌+◌, ◌*◌, ◌%◌, ◌^◌, ◌<◌, ◌≤◌, ltb, cond_both, Bool, true, false, not, List, [], ◌∷◌, length, length-append, slice_get, slice_set, Option, Some, None, Result, Ok, refl, sym, ap, ◌∙◌, subst, arith, or_parts, le-leb, lt-leb, lt-ltb, ltb-true, ltb-false, Refusal, Layout, Narrow, Wide, Item, items_of, after_advance, Action, Load, StoreSeq, Finished, after_loads, FinishesAfter, each_turn, turn_at, turn_count, went_on, SyncCore, WorkerCore, rest_of, turned, is_finished, Change, Work, Answer, Quiet, Worker, Mark, QueueAct, QueueState, ReaderState, GraceState, Holder, WorkerState, acted, changed_at, is_open_in, Items, Plans, BoardView, told, ◌-◌, cond, replicate, Err, ne_eqb, Busy, Exhausted, get_or_from_slice_get, none_some, empty_queue_state, inl, inr, MembPlan, QsbrPlan, Line, Turn, WorkerVerb, stepped, loaded_word, action_effect, lock_effect, done_with, plan_now, operation_test, change_of, with_change, outcome_of, world_after, IsPrompt, IsMade, OfMemb, OfQsbr, memb_plans, qsbr_plans, worked, worker_on, with_core, is_resting, is_none_left, some_open, steps_for, drain_lines, is_busy, items_in, items_to_drain, steps_with, HasDrained, AreMadeFrom, Tells, Drains, IsSettled, AreMade, MeetsDrain, IsReached, slice_get_within, slice_get-get_or, length-set, get_or-set_same}
 use Rattle.callback_queue.specs.Queue.{Queue}
 use Rattle.call_rcu_worker.specs.declared.worker.Tickets.{Tickets}
 use Rattle.world.specs.Row.{after, made}
@@ -10,7 +10,7 @@ use Rattle.world.specs.Shown.{Meets}
 use Rattle.world.proofs.Promises.{reached_step, memb_lines, qsbr_lines}
 use Rattle.world.proofs.WorkerSteps.{all_fresh}
 use Rattle.world.proofs.Fence.{Laws, Work as Works, Holds}
-use Rattle.world.proofs.Moving.{work_now}
+use Rattle.world.proofs.Callbacks.{its_work}
 use Rattle.world.proofs.Logged.{Logged, within_limits, logged}
 use Rattle.world.proofs.State.{holder_of}
 
@@ -338,7 +338,7 @@ module _ {P : Type 0} (plans : Plans P) where
 settled_from : {P : Type 0} (plans : Plans P) (layout : Layout) (slots : ℕ) (laws : Laws plans layout slots) (w : BoardView P) → Logged plans layout slots laws w → slots ≤ 64 → IsSettled w
 settled_from {P} plans layout slots laws w l few = record {
   even = λ free. l.kept.part.grace_kept.even (λ x a c p runs. none_some x (sym (ap holder_of free) ∙ l.kept.part.grace_kept.held x (subst (λ (v : Works P). Holds v) (sym runs) tt)));
-  rested = λ k x q is has idle. rw (get_or_from_slice_get w.queues k q empty_queue_state has) at (work_now plans layout slots laws w l k x WorkerCore.Idle (record { was = is; at = idle }));
+  rested = λ k x q is has idle. rw (get_or_from_slice_get w.queues k q empty_queue_state has) at (its_work w (after_all start w.log) l.callbacks k x is idle);
   few_readers = subst (λ n. n ≤ 64) (sym l.kept.shape.sized) few;
 }
 
