@@ -15,3 +15,8 @@ pub sync_on-requires-clause-groups : goal.sync_on-requires-clause-groups
 sync_on-requires-clause-groups g c =
     let there = subst (λ (xs : List (WorkerState _)). slice_get xs c.args.worker ≡ Some c.in-Some.state.now) c.deref.ensures.value (sym c.in-Some.ensures) in
     c.requires.worker_plans_run c.args.worker c.in-Some.state.now c.in-Syncs.sync c.in-Syncs.tickets there c.in-Syncs.is
+
+pub run-requires-clause-next : goal.run-requires-clause-next
+run-requires-clause-next g c = λ first found.
+    let there = subst (λ (xs : List (WorkerState _)). slice_get xs c.args.worker ≡ Some c.in-Some.state.now) c.deref.ensures.value (sym c.in-Some.ensures) in
+    c.requires.pops c.args.worker c.in-Some.state.now c.in-Pops.tickets first there c.in-Pops.is found
