@@ -135,7 +135,7 @@ stalled_silent _ h = refl
 abbrev pub Fails : {X : Type 0} → Result X Refusal → Type 0
 Fails r = IfErr r IsStepError
 
-pub whichever : {X : Type 0} {F : Refusal → Type 0} (b : Bool) (x y : Result X Refusal) → IfErr x F → IfErr y F → IfErr (cond b x y) F
+pub whichever : {X : Type 0} (b : Bool) (x y : Result X Refusal) → Fails x → Fails y → Fails (cond b x y)
 whichever true x y p q = p
 whichever false x y p q = q
 

@@ -3,7 +3,7 @@ use Rattle.world.proofs.Cited.{QueueState, ◌≡◌, ◌≢◌, ◌+◌, ◌-�
 use Rattle.world.specs.Blocking.{is_to_lock, place_is_to_lock, core_is_to_lock, needs_held_lock, is_locked_out, IsBlockedIf}
 use Rattle.world.specs.Queues.{queue_of, may_retire, lock_row as queue_lock_row, barrier_on}
 use Rattle.world.specs.Standing.{outside, by_section, by_cookie, by_operation, refusal_in, standing_refusal, MeetsStanding}
-use Rattle.world.proofs.Rows.{by_option, by_entry, whichever}
+use Rattle.world.proofs.Rows.{by_option, by_entry}
 
 -- what the first test that fails says: a refusal by where the actor stands, or whether a lock is held
 abbrev Tells : Option Refusal → Bool → Option (Result Answer Refusal) → Type 0
@@ -96,8 +96,12 @@ module _ {P : Type 0} (w : BoardView P) (r : ℕ) (v : ReaderState) where
 abbrev Fine : {X : Type 0} → Result X Refusal → Type 0
 Fine r = IfErr r IsOfVerb
 
+either : {X : Type 0} (b : Bool) (x y : Result X Refusal) → Fine x → Fine y → Fine (cond b x y)
+either true x y p q = p
+either false x y p q = q
+
 fine_cookie : (seq : ℕ) → Fine (cookie_for seq)
-fine_cookie seq = whichever (nat_lt seq (2 ^ 62)) _ _ tt tt
+fine_cookie seq = either (nat_lt seq (2 ^ 62)) _ _ tt tt
 
 module _ {P : Type 0} (plans : Plans P) (w : BoardView P) where
   fine_ask : (cookie : Result ℕ Refusal) → Fine cookie → Fine (asked_with {P = P} cookie)
@@ -106,8 +110,8 @@ module _ {P : Type 0} (plans : Plans P) (w : BoardView P) where
 
   fine_told : (sync : SyncCore P) (loaded : ℕ) → Fine (told_of plans.action plans.turn plans.taken sync loaded)
   fine_told SyncCore.Asks loaded = fine_ask (cookie_for loaded) (fine_cookie loaded)
-  fine_told (SyncCore.Checks c) loaded = whichever (nat_le c loaded) _ _ tt tt
-  fine_told (SyncCore.Runs c p) loaded = elim (plans.turn p loaded) as (λ turn. Fine (turned plans.action c p (plans.taken p loaded) turn)) [ Turn.Wait ↦ tt | Turn.Step ↦ whichever (is_finished (plans.action (plans.taken p loaded))) _ _ tt tt ]
+  fine_told (SyncCore.Checks c) loaded = either (nat_le c loaded) _ _ tt tt
+  fine_told (SyncCore.Runs c p) loaded = elim (plans.turn p loaded) as (λ turn. Fine (turned plans.action c p (plans.taken p loaded) turn)) [ Turn.Wait ↦ tt | Turn.Step ↦ either (is_finished (plans.action (plans.taken p loaded))) _ _ tt tt ]
   fine_told _ loaded = tt
 
   -- a step that takes no lock
