@@ -1,5 +1,5 @@
 -- What the world keeps of retired objects, queues, workers and barriers beside the machine.
-use Rattle.world.proofs.Cited.{Item, mod_below, slice_get_within, ◌≡◌, ◌≢◌, ◌⊎◌, inl, inr, ℕ, ◌+◌, ◌%◌, ◌<◌, ◌≤◌, Bool, true, false, List, [], ◌∷◌, ◌++◌, length, get_or, slice_get, Option, Some, None, sym, ap, ◌∙◌, subst, arith, Event, Open, Close, First, Next, Retire, Queue, Run, Ask, Clear, ObjectId, SectionId, without_section, at_number, State, IsAllowed, after, In, in_left, has_number_in, without_section_has, has_without_section, at_number_other, given_of, SyncCore, WorkerCore, Life, ObjectState, QueueState, BarrierStep, Note, Check, RetireStep, UpdaterPlace, Retires, Bars, UpdaterState, WorkerState, changed_at, BoardView, stage_of, chain_of, decide_number, life_of, Items, Has, InQueue, queue_at, changed_here, changed_else, refl, items_of, Mark, marked_life, life_else, stage_marked, chain_marked, Stands, changed_length, slice_set, Result, Ok, Err, length-set, Refusal, AreAllowed, after_all, Layout, ReaderState, Change, Read, Begin, Publish, Grace, Stay, spliced_objects, Plans, told, changed, within, grown_same, spliced_chain, stage_grown, life_within, life_grown, life_spliced, Stage}
+use Rattle.world.proofs.Cited.{get_or_from_slice_get, new_worker, grows, Item, mod_below, slice_get_within, ◌≡◌, ◌≢◌, ◌⊎◌, inl, inr, ℕ, ◌+◌, ◌%◌, ◌<◌, ◌≤◌, Bool, true, false, List, [], ◌∷◌, ◌++◌, length, get_or, slice_get, Option, Some, None, sym, ap, ◌∙◌, subst, arith, Event, Open, Close, First, Next, Retire, Queue, Run, Ask, Clear, ObjectId, SectionId, without_section, at_number, State, IsAllowed, after, In, has_number_in, without_section_has, has_without_section, at_number_other, given_of, SyncCore, WorkerCore, Life, ObjectState, QueueState, BarrierStep, Note, Check, RetireStep, UpdaterPlace, Retires, Bars, UpdaterState, WorkerState, changed_at, BoardView, stage_of, chain_of, decide_number, life_of, Items, Has, InQueue, queue_at, changed_here, changed_else, refl, items_of, Mark, marked_life, life_else, stage_marked, chain_marked, Stands, changed_length, slice_set, Result, Ok, Err, length-set, Refusal, AreAllowed, after_all, Layout, ReaderState, Change, Read, Begin, Publish, Grace, Stay, spliced_objects, Plans, told, changed, within, grown_same, spliced_chain, stage_grown, life_within, life_grown, life_spliced, Stage}
 use Rattle.callback_queue.specs.Queue.{Queue as ItemQueue}
 use Rattle.world.proofs.State.{updater_at, worker_at, told_by, Kept, Owes, at_updaters}
 use Rattle.world.proofs.Fence.{Laws}
@@ -158,7 +158,6 @@ pub record CallbacksKept {P : Type 0} (os : List ObjectState) (qs : List QueueSt
   pub sizes : Sizes qs workers
   pub items : ItemsKept os qs now.retired now.queued now.reclaimed
   pub queues : (j : ℕ) → QueueKept (queue_at qs j) logged now.awaited
-  pub awaits_open : (o : ObjectId) (s : SectionId) → In (now.awaited o) s → In now.sections s
   pub retiring : (u : ℕ) → RetireKept os qs (length updaters) u (updater_at updaters u).place
   pub working : (k : ℕ) → WorkAt (queue_at qs k) now.asked now.awaited now.asked_sections (worker_at workers k)
   pub barring : (u : ℕ) → BarKept qs now.noted now.cleared now.noted_objects (updater_at updaters u).place
@@ -167,6 +166,11 @@ pub record CallbacksKept {P : Type 0} (os : List ObjectState) (qs : List QueueSt
 
 abbrev pub Callbacks : {P : Type 0} → BoardView P → State → Type 0
 Callbacks w now = CallbacksKept w.objects w.queues w.updaters w.workers w.barriers (length w.log) now
+
+-- a worker whose state is so now, beside what its queue says
+pub its_work : {P : Type 0} (w : BoardView P) (now : State) → Callbacks w now → (k : ℕ) (x : WorkerState P) {core : WorkerCore P Unit} → slice_get w.workers k ≡ Some x → x.core ≡ core → WorkAt (queue_at w.queues k) now.asked now.awaited now.asked_sections (record x { core = core })
+its_work w now c k x there is = subst (λ (core : WorkerCore _ Unit). WorkAt (queue_at w.queues k) now.asked now.awaited now.asked_sections (record x { core = core })) is
+    (subst (λ (y : WorkerState _). WorkAt (queue_at w.queues k) now.asked now.awaited now.asked_sections y) (get_or_from_slice_get w.workers k x new_worker there) (c.working k))
 
 -- one queue changes, and what holds of each still holds
 pub at_queues : (F : ℕ → QueueState → Type 0) (f : QueueState → QueueState) (qs : List QueueState) (j : ℕ) → j < length qs → F j (f (queue_at qs j)) → ((i : ℕ) → i ≢ j → F i (queue_at qs i)) → (i : ℕ) → F i (queue_at (changed_at f qs j (slice_get qs j)) i)
@@ -223,26 +227,24 @@ IsOther _ = Unit {0}
 
 module _ {P : Type 0} (w : BoardView P) (now : State) (k : Callbacks w now) where
   over_sections : (sections' : List SectionId) (awaited' : ObjectId → List SectionId) (asked' : List ℕ) (asked_sections' : ℕ → List SectionId) →
-      ((o : ObjectId) (s : SectionId) → In (awaited' o) s → In sections' s) → ((o : ObjectId) → now.awaited o ≡ [] → awaited' o ≡ []) → ((a : ℕ) → In now.asked a → In asked' a) →
+      ((o : ObjectId) → now.awaited o ≡ [] → awaited' o ≡ []) → ((a : ℕ) → In now.asked a → In asked' a) →
       ((o : ObjectId) (a : ℕ) → In now.asked a → Covered now.awaited now.asked_sections o a → Covered awaited' asked_sections' o a) →
       Callbacks w (record now { sections = sections'; awaited = awaited'; asked = asked'; asked_sections = asked_sections' })
-  over_sections sections' awaited' asked' asked_sections' opens frees asks covers = assumption (
-    opens,
+  over_sections sections' awaited' asked' asked_sections' frees asks covers = assumption (
     λ (j : ℕ). queue_frees awaited' frees (k.queues j),
     λ (j : ℕ). work_at now.asked asked' now.awaited awaited' now.asked_sections asked_sections' asks (queue_at w.queues j) (worker_at w.workers j) (λ o a h. covers o a) (k.working j),
   )
 
   -- what such an event keeps
   pub over_event : (e : Event) → IsOther e → IsAllowed now e → Callbacks w (after now e)
-  over_event (Open s) is allowed = assumption (over_sections (now.sections ++ s ∷ []) now.awaited now.asked now.asked_sections (λ o t h. in_left now.sections (s ∷ []) t (k.awaits_open o t h)) (λ o e. e) (λ a h. h) (λ o a h c. c))
+  over_event (Open s) is allowed = assumption (over_sections (now.sections ++ s ∷ []) now.awaited now.asked now.asked_sections (λ o e. e) (λ a h. h) (λ o a h c. c))
   over_event (Close s) is allowed = assumption (over_sections (without_section s now.sections) (λ o. without_section s (now.awaited o)) now.asked (λ a. without_section s (now.asked_sections a))
-      (λ o t h. let had = without_section_has s (now.awaited o) t h in has_without_section s now.sections t (k.awaits_open o t had.0) had.1)
       (λ o e. ap (without_section s) e) (λ a h. h)
       (λ o a h c t g. let had = without_section_has s (now.awaited o) t g in has_without_section s (now.asked_sections a) t (c t had.0) had.1))
   over_event (Retire o) is allowed = absurd is
   over_event (Queue o q) is allowed = absurd is
   over_event (Run o) is allowed = absurd is
-  over_event (Ask a) is allowed = assumption (over_sections now.sections now.awaited (a ∷ now.asked) (at_number a now.sections now.asked_sections) k.awaits_open (λ o e. e) (λ b h. inr h)
+  over_event (Ask a) is allowed = assumption (over_sections now.sections now.awaited (a ∷ now.asked) (at_number a now.sections now.asked_sections) (λ o e. e) (λ b h. inr h)
       (λ o b h c t g. subst (λ (l : List SectionId). In l t) (sym (at_number_other a b now.sections now.asked_sections (λ e. allowed (has_number_in now.asked a (subst (In now.asked) e h))))) (c t g)))
   over_event (Event.Bar b) is allowed = absurd is
   over_event (Clear b) is allowed = absurd is
@@ -282,9 +284,6 @@ pub found_over : (qs qs' : List QueueState) (o : ObjectId) → length qs' ≡ le
 found_over qs qs' o same stays (j, t, low, here) = (j, t, subst (λ n. j < n) (sym same) low, stays j t here)
 
 -- a barrier over other queues, in which each object that it waits for keeps its place
-pub faces_over : (qs qs' : List QueueState) (counts : List ℕ) (d : BarrierStep) (o : ObjectId) → length qs' ≡ length qs → ((j t : ℕ) → InQueue (queue_at qs j) t o → InQueue (queue_at qs' j) t o) → Faces qs counts d o → Faces qs' counts d o
-faces_over qs qs' counts d o same stays (j, t, low, here, facing) = (j, t, subst (λ n. j < n) (sym same) low, stays j t here, facing)
-
 pub bar_over : {P : Type 0} (qs qs' : List QueueState) (noted cleared : List ℕ) (noted_objects noted_objects' : ℕ → List ObjectId) (p : UpdaterPlace P) → length qs' ≡ length qs →
     ((b : ℕ) (o : ObjectId) → In (noted_objects' b) o → In (noted_objects b) o × ((j t : ℕ) → InQueue (queue_at qs j) t o → InQueue (queue_at qs' j) t o)) →
     BarKept qs noted cleared noted_objects p → BarKept qs' noted cleared noted_objects' p
@@ -293,7 +292,7 @@ bar_over qs qs' noted cleared noted_objects noted_objects' (Bars b) same stays h
   h.1,
   subst (λ n. n ≤ length b.counts) (sym same) h.2,
   subst (IsAt b.due) (sym same) h.3,
-  λ o g. let was = stays b.number o g in faces_over qs qs' b.counts b.due o same was.1 (h.4 o was.0),
+  λ o g. let was = stays b.number o g in let f = h.4 o was.0 in (f.0, f.1, subst (λ n. f.0 < n) (sym same) f.2, was.1 f.0 f.1 f.3, f.4),
 )
 bar_over qs qs' noted cleared noted_objects noted_objects' _ same stays h = tt
 
@@ -414,14 +413,6 @@ over_events : {P : Type 0} (w : BoardView P) (now : State) (es : List Event) →
 over_events w now [] is allowed k = k
 over_events w now (e ∷ es) is allowed k = over_events w (after now e) es is.1 allowed.1 (over_event w now k e is.0 allowed.0)
 
--- what was cut stays cut
-cut_grows : (now : State) (e : Event) (o : ObjectId) → In now.cut o → In (after now e).cut o
-cut_grows now (Event.Replace c p q) o h = inr h
-cut_grows now (Event.Cut c p) o h = inr h
-cut_grows now (Event.First s c None) o h = h
-cut_grows now (Event.Next s p None) o h = h
-cut_grows now _ o h = h
-
 -- changes that callbacks do not notice
 abbrev pub PlainChange : {P : Type 0} → BoardView P → Change P → Type 0
 PlainChange w (Read r step) = AreOther (told step.answer)
@@ -449,7 +440,7 @@ module _ {P : Type 0} {plans : Plans P} {layout : Layout} {slots : ℕ} {laws : 
     owed.0,
     owed.1,
     over_table w (after now e) (over_event w now k e is.2 owed.0.0) (spliced_objects w.objects s) u x (length (w.log ++ e ∷ [])) is.0 is.1 (longer w.log (e ∷ [])) (life_spliced w.objects s)
-        (λ o inside. spliced_chain w.objects s o) (λ o was. (owed.1.links_kept.was_cut o (cut_grows now e o (kept.links_kept.cuts o was))).0),
+        (λ o inside. spliced_chain w.objects s o) (λ o was. (owed.1.links_kept.was_cut o ((grows now e).cut o (kept.links_kept.cuts o was))).0),
   )
   plainly (Grace u x grace answer) is owed = (
     owed.0,

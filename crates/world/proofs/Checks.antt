@@ -1,18 +1,16 @@
 -- What a check under the grace lock answers, and a `poll`; and the steps of a retirement, in their order.
-use Rattle.world.proofs.Cited.{◌≡◌, ℕ, nat_le, cond, Bool, true, false, not, get_or, slice_get, List, [], ◌∷◌, Option, Some, None, Result, Ok, refl, sym, ap, ◌∙◌, unwrap_or, get_or_from_slice_get, unwrap_or-slice_get, Refusal, Answered, SyncCore, Checks, Starts, Frees, Tickets, WorkerCore, Answer, Events, Wait, Line, Updater, Worker, UpdaterPlace, Idle, Syncs, Started, UpdaterState, Change, Grace, WorkerState, new_worker, Plans, BoardView, idle, ◌<◌, is_some, length, slice_set, subst, get_or-set_same, slice_get_within, ObjectId, Quiet, Blocked, QueueState, RetireStep, Count, Free, Retires, Hold, Stay, empty_queue_state, held_by, changed_here, cond_both, UpdaterVerb, WorkerVerb, GraceStep, stepped, poll_row, worked, worker_on, is_resting, lock_of}
+use Rattle.world.proofs.Cited.{◌≡◌, ℕ, nat_le, cond, Bool, true, false, not, get_or, slice_get, [], ◌∷◌, Option, Some, None, Result, Ok, refl, ap, ◌∙◌, get_or_from_slice_get, Refusal, Answered, Checks, Starts, Frees, WorkerCore, Answer, Events, Wait, Line, Updater, Worker, UpdaterPlace, Idle, Syncs, Started, UpdaterState, Change, Grace, WorkerState, new_worker, Plans, BoardView, idle, ◌<◌, is_some, length, slice_set, subst, get_or-set_same, slice_get_within, ObjectId, Quiet, Blocked, QueueState, RetireStep, Count, Free, Retires, Hold, Stay, empty_queue_state, held_by, changed_here, cond_both, UpdaterVerb, WorkerVerb, GraceStep, stepped, poll_row, worked, worker_on, is_resting, lock_of}
+use Rattle.world.proofs.Rows.{by_entry}
 use Rattle.rcu_model.specs.declared.event.Event.TheVariants.{Answer as EventAnswer}
 use Rattle.call_rcu_worker.specs.Sync.{telling}
 use Rattle.call_rcu_worker.specs.declared.sync.Told.TheVariants.{Quiet}
 use Rattle.world_state.specs.declared.line.Answer.TheVariants.{Quiet as Plain}
-use Rattle.world.specs.Checks.{Check, check_in, check_of_place, check_of_core, poll_at, poll_of, check_by, answer_by}
+use Rattle.world.specs.Checks.{Check, check_of_place, check_of_core, poll_at, poll_of, check_by, answer_by}
 use Rattle.world.specs.Lines.{operation_test, is_idle, synced, updater_on, of_updater, of_worker, with_change, outcome_of}
 use Rattle.world.specs.Row.{stalled_if, guarded, after, made}
 use Rattle.world_state.specs.declared.updater.RetireStep.TheVariants.{Mark, Push}
 use Rattle.world.specs.Queues.{queue_of, at_place, retire_on, may_retire, lock_row}
 use Rattle.world.specs.Retiring.{Due, due_at, due_of, DoesItsStep, RetiresInOrder}
-
-pub past : {X : Type 0} (xs : List X) (i : ℕ) (d : X) → slice_get xs i ≡ None → get_or xs i d ≡ d
-past xs i d none = sym (unwrap_or-slice_get xs i d) ∙ ap (λ o. unwrap_or o d) none
 
 module _ {P : Type 0} (plans : Plans P) (w : BoardView P) where
   -- what is answered to one whose cookie was reached, and to one whose cookie was not
@@ -22,14 +20,9 @@ module _ {P : Type 0} (plans : Plans P) (w : BoardView P) where
   abbrev reply : ℕ → Bool → Result Answer Refusal
   reply ask b = cond b (Ok (Events (EventAnswer ask) None)) (Ok Plain)
 
-  module _ (u : ℕ) (x : UpdaterState P) (ask : ℕ) where
-    updater_checks : (core : SyncCore P) (check : Check) → check_in ask core ≡ Some check → (with_change w (made (updater_on plans w u x (Syncs ask core)))).answer ≡ answer_by w.grace.seq check
-    updater_checks (Checks cookie) check is = let same : record { ask = ask; cookie = cookie; otherwise = Plain } ≡ check = cc in
-        (elim (nat_le cookie w.grace.seq) as (λ b. (with_change w (made (synced plans u x ask (checked ask cookie b)))).answer ≡ reply ask b) [ true ↦ refl | false ↦ refl ]) ∙ ap (λ (c : Check). answer_by w.grace.seq c) same
-    updater_checks core check is = cc
-
   at_updater : (u : ℕ) (x : UpdaterState P) (place : UpdaterPlace P) (check : Check) → check_of_place place ≡ Some check → (with_change w (made (after (operation_test true (not (is_idle place)) ∷ []) (updater_on plans w u x place)))).answer ≡ answer_by w.grace.seq check
-  at_updater u x (Syncs ask core) check is = updater_checks u x ask core check is
+  at_updater u x (Syncs ask (Checks cookie)) check is = let same : record { ask = ask; cookie = cookie; otherwise = Plain } ≡ check = cc in
+      (elim (nat_le cookie w.grace.seq) as (λ b. (with_change w (made (synced plans u x ask (checked ask cookie b)))).answer ≡ reply ask b) [ true ↦ refl | false ↦ refl ]) ∙ ap (λ (c : Check). answer_by w.grace.seq c) same
   at_updater u x place check is = cc
 
   module _ (u : ℕ) (x : UpdaterState P) where
@@ -41,36 +34,19 @@ module _ {P : Type 0} (plans : Plans P) (w : BoardView P) where
         ∙ ap (λ (c : Check). answer_by w.grace.seq c) same
     polls place started check is = cc
 
-  of_poll : (u : ℕ) (y : Option (UpdaterState P)) → slice_get w.updaters u ≡ y → (check : Check) → poll_of (get_or w.updaters u idle) ≡ Some check → (with_change w (made (of_updater plans w u UpdaterVerb.Poll y))).answer ≡ answer_by w.grace.seq check
-  of_poll u None there check is = let none = ap (λ (x : UpdaterState P). poll_of x) (past w.updaters u idle there) in cc
-  of_poll u (Some x) there check is = polls u x x.place x.started check (sym (ap (λ (y : UpdaterState P). poll_of y) (get_or_from_slice_get w.updaters u x idle there)) ∙ is)
-
-  module _ (k : ℕ) (x : WorkerState P) (tickets : Tickets) where
-    worker_checks : (core : SyncCore P) (check : Check) → check_in x.ask core ≡ Some check → (with_change w (made (worker_on plans w k x (WorkerCore.Syncs core tickets)))).answer ≡ answer_by w.grace.seq check
-    worker_checks (Checks cookie) check is = let same : record { ask = x.ask; cookie = cookie; otherwise = Plain } ≡ check = cc in
-        (elim (nat_le cookie w.grace.seq) as (λ b. (with_change w (made (worked k x.ask tickets (checked x.ask cookie b)))).answer ≡ reply x.ask b) [ true ↦ refl | false ↦ refl ]) ∙ ap (λ (c : Check). answer_by w.grace.seq c) same
-    worker_checks core check is = cc
-
   at_core : (k : ℕ) (x : WorkerState P) (core : WorkerCore P Unit) (check : Check) → check_of_core x.ask core ≡ Some check → (with_change w (made (after (operation_test true (not (is_resting core)) ∷ []) (worker_on plans w k x core)))).answer ≡ answer_by w.grace.seq check
-  at_core k x (WorkerCore.Syncs sync tickets) check is = worker_checks k x tickets sync check is
+  at_core k x (WorkerCore.Syncs (Checks cookie) tickets) check is = let same : record { ask = x.ask; cookie = cookie; otherwise = Plain } ≡ check = cc in
+      (elim (nat_le cookie w.grace.seq) as (λ b. (with_change w (made (worked k x.ask tickets (checked x.ask cookie b)))).answer ≡ reply x.ask b) [ true ↦ refl | false ↦ refl ]) ∙ ap (λ (c : Check). answer_by w.grace.seq c) same
   at_core k x core check is = cc
 
-  of_updater_line : (u : ℕ) (y : Option (UpdaterState P)) → slice_get w.updaters u ≡ y → (check : Check) → check_of_place (get_or w.updaters u idle).place ≡ Some check → (with_change w (made (of_updater plans w u UpdaterVerb.GoOn y))).answer ≡ answer_by w.grace.seq check
-  of_updater_line u None there check is = let none = ap (λ (x : UpdaterState P). check_of_place x.place) (past w.updaters u idle there) in cc
-  of_updater_line u (Some x) there check is =
-      at_updater u x x.place check (sym (ap (λ (y : UpdaterState P). check_of_place y.place) (get_or_from_slice_get w.updaters u x idle there)) ∙ is)
-
-  of_worker_line : (k : ℕ) (y : Option (WorkerState P)) → slice_get w.workers k ≡ y → (check : Check) → check_of_core (get_or w.workers k new_worker).ask (get_or w.workers k new_worker).core ≡ Some check →
-      (with_change w (made (of_worker plans w k WorkerVerb.GoOn y))).answer ≡ answer_by w.grace.seq check
-  of_worker_line k None there check is = let none = ap (λ (x : WorkerState P). check_of_core x.ask x.core) (past w.workers k new_worker there) in cc
-  of_worker_line k (Some x) there check is =
-      at_core k x x.core check (sym (ap (λ (y : WorkerState P). check_of_core y.ask y.core) (get_or_from_slice_get w.workers k x new_worker there)) ∙ is)
-
   pub checks : (line : Line) (check : Check) → check_by w line ≡ Some check → (outcome_of plans w line).answer ≡ answer_by w.grace.seq check
-  checks (Updater u UpdaterVerb.GoOn) check is = of_updater_line u (slice_get w.updaters u) refl check is
-  checks (Updater u UpdaterVerb.Poll) check is = of_poll u (slice_get w.updaters u) refl check is
-  checks (Worker k WorkerVerb.GoOn) check is = of_worker_line k (slice_get w.workers k) refl check is
-  checks line check is = cc
+  checks (Updater u UpdaterVerb.GoOn) check = by_entry (λ y (x : UpdaterState P). check_of_place x.place ≡ Some check → (with_change w (made (of_updater plans w u UpdaterVerb.GoOn y))).answer ≡ answer_by w.grace.seq check) w.updaters u idle
+      (λ is. cc) (λ x there. at_updater u x x.place check)
+  checks (Updater u UpdaterVerb.Poll) check = by_entry (λ y (x : UpdaterState P). poll_of x ≡ Some check → (with_change w (made (of_updater plans w u UpdaterVerb.Poll y))).answer ≡ answer_by w.grace.seq check) w.updaters u idle
+      (λ is. cc) (λ x there. polls u x x.place x.started check)
+  checks (Worker k WorkerVerb.GoOn) check = by_entry (λ y (x : WorkerState P). check_of_core x.ask x.core ≡ Some check → (with_change w (made (of_worker plans w k WorkerVerb.GoOn y))).answer ≡ answer_by w.grace.seq check) w.workers k new_worker
+      (λ is. cc) (λ x there. at_core k x x.core check)
+  checks _ check = λ is. cc
 
 -- ---- the steps of a retirement, in their order
 
@@ -91,10 +67,6 @@ module _ {P : Type 0} (plans : Plans P) (w : BoardView P) (u : ℕ) (there : que
       let same : record { object = o; step = step } ≡ due = cc in
       subst (λ (d : Due). DoesItsStep w u (queue_of w u) (with_change w (Ok (retire_on w u x o step))) d.object d.step) same (of_step x was o step)
   of_place x was place due is = cc
-
-  of_updaters : (y : Option (UpdaterState P)) → slice_get w.updaters u ≡ y → (due : Due) → due_of w u ≡ Some due → DoesItsStep w u (queue_of w u) (with_change w (made (of_updater plans w u UpdaterVerb.GoOn y))) due.object due.step
-  of_updaters None was due is = let none = ap (λ (x : UpdaterState P). due_at x.place) (past w.updaters u idle was) in cc
-  of_updaters (Some x) was due is = of_place x was x.place due (sym (ap (λ (y : UpdaterState P). due_at y.place) (get_or_from_slice_get w.updaters u x idle was)) ∙ is)
 
   -- its first line
   abbrev Begins : ObjectId → Result (Change P) Refusal → Type 0
@@ -119,5 +91,6 @@ module _ {P : Type 0} (plans : Plans P) (w : BoardView P) (u : ℕ) (there : que
   pub in_order : RetiresInOrder plans w u
   in_order = record {
     begins = λ o. of_first o (slice_get w.updaters u) refl;
-    goes_on = λ due. of_updaters (slice_get w.updaters u) refl due;
+    goes_on = λ due. by_entry (λ y (x : UpdaterState P). due_at x.place ≡ Some due → DoesItsStep w u (queue_of w u) (with_change w (made (of_updater plans w u UpdaterVerb.GoOn y))) due.object due.step) w.updaters u idle
+        (λ is. cc) (λ x was. of_place x was x.place due);
   }

@@ -20,7 +20,7 @@ pub use Rattle.gp_memb.specs.declared.plan.Turn.{Turn}
 pub use Rattle.gp_memb.specs.lemmas.History.{after_snoc, may_begin, may_turn, never_finished, shows_slot}
 pub use Rattle.gp_qsbr.specs.declared.qsbr.QsbrPlan.{QsbrPlan}
 pub use Rattle.poll_cookie.specs.Cookie.{cookie_for, even_below}
-pub use Rattle.rcu_model.proofs.Lemmas.{In, InTurn, IsPlace, Kept, NoTurn, SafeIn, Spliced, after_append, allowed_append, at_number_other, at_number_same, at_object_other, at_object_same, at_section_other, at_section_same, cut_before, cut_last, cut_splices, decide, empty_from, filter_has, first_has, follows, follows_has, has_number_in, has_object_in, has_section_in, has_without_section, in_append, in_last, in_left, in_more, in_numbers, in_objects, in_sections, kept_start, kept_step, linked, none_some, push_splices, queued_elsewhere, queued_turn, quiet_turn, replace_splices, run_elsewhere, run_turn, runs_of, some_is, without_object_has, without_section_has}
+pub use Rattle.rcu_model.proofs.Lemmas.{AwaitsOpen, In, InTurn, IsPlace, Kept, NoTurn, OpenSeen, SafeIn, Spliced, after_append, allowed_append, at_number_other, at_number_same, at_object_other, at_object_same, at_section_other, at_section_same, awaits_open, cut_before, cut_last, cut_splices, decide, empty_from, filter_has, first_has, follows, follows_has, grows, has_number_in, has_object_in, has_section_in, has_without_section, in_append, in_last, in_left, in_more, in_numbers, in_objects, in_sections, kept_log, kept_step, linked, none_some, open_seen, push_splices, queued_elsewhere, queued_turn, quiet_turn, replace_splices, run_elsewhere, run_parts, run_turn, runs_of, some_is, without_object_has, without_section_has}
 pub use Rattle.rcu_model.specs.Machine.{AreAllowed, IsAllowed, IsRun, IsSuccessor, State, after, after_all, got, not_run, start}
 pub use Rattle.rcu_model.specs.Promises.{IsSafeLog}
 pub use Rattle.rcu_model.specs.RunOrder.{queued_by, queued_into, run_by, run_from}
@@ -43,15 +43,16 @@ pub use Rattle.std.proofs.lemmas.Bool.{and_parts, cond-false, cond-true, cond_bo
 pub use Rattle.std.proofs.lemmas.List.Elements.{All-from_recursion, filter_map-append}
 pub use Rattle.std.proofs.lemmas.List.FromFn.{length-range_with_len}
 pub use Rattle.std.proofs.lemmas.List.Sorted.{IsPermutation-append_right, IsPermutation-middle, IsPermutation-pop_more, IsPermutation-push_more, IsPermutation-refl, IsPermutation-sym, IsPermutation-trans}
-pub use Rattle.std.proofs.lemmas.List.{append_assoc, length-replicate, nil_from_length}
+pub use Rattle.std.proofs.Math.Seq.{split_at}
+pub use Rattle.std.proofs.lemmas.List.{append_assoc, length-replicate, map-append, nil_from_length, set_split}
 pub use Rattle.std.proofs.lemmas.Nat.{mod_below}
-pub use Rattle.std.proofs.lemmas.Option.{cond_some, get_or_from_slice_get, none-some, same_Some, slice_get-get_or, slice_get_past, slice_get_within, unwrap_or-slice_get}
+pub use Rattle.std.proofs.lemmas.Option.{cond_some, get_or_from_slice_get, none-some, same_Some, slice_get-get_or, slice_get_within, unwrap_or-slice_get}
 pub use Rattle.std.specs.List.{cons_option, filter_map, range_with_len}
 pub use Rattle.std.specs.Option.{option_map_or, option_or, unwrap_or}
-pub use Rattle.std.specs.Prelude.{All, IfErr, IfOk, OnOk, is_err}
+pub use Rattle.std.specs.Prelude.{All, IfErr, IfOk, OnOk, drop, is_err, map, take}
 pub use Rattle.world.specs.Answers.{answer_to, one}
 pub use Rattle.world.specs.Chains.{cut_row, first_row, linked_by, next_from, next_object, next_row, published, push_row, pushed_row, replace_row, replaced_row, writes}
-pub use Rattle.world.specs.Drain.{AreMade, AreMadeFrom, Drains, HasDrained, IsSettled, IsWork, MeetsDrain, Tells, drain_lines, is_busy, items_in, items_to_drain, some_open, steps_for, steps_in, steps_with}
+pub use Rattle.world.specs.Drain.{AreMade, AreMadeFrom, Drains, HasDrained, IsSettled, MeetsDrain, Tells, drain_lines, is_busy, items_in, items_to_drain, some_open, steps_for, steps_in, steps_with}
 pub use Rattle.world.specs.Grace.{action_effect, done_with, grace_row, is_blocked, is_waiting, loaded_word, lock_effect, place_at, plan_now, planned, poll_row, start_row, stepped, sync_place, sync_row}
 pub use Rattle.world.specs.Lines.{Outcome, change_of, grace_change, in_section, is_idle, of_memb, of_qsbr, of_reader, of_updater, of_worker, operation_test, outcome_of, reader_line}
 pub use Rattle.world.specs.Lines.{reader_on, reader_verb, reads_on, row_of, updater_line, updater_on, updater_verb, updates_on, with_change, worker_line, worker_verb, works_on, world_after}
@@ -66,7 +67,7 @@ pub use Rattle.world.specs.Tests.{IsTested, MeetsTests, StepsBy, exact, line_tes
 pub use Rattle.world.specs.Workers.{ask_for, first_fresh, first_in, is_none_left, is_resting, run_row, take_row, with_core, work_change, worked, worker_act, worker_on}
 pub use Rattle.world.specs.declared.grace.GraceStep.{GraceStep}
 pub use Rattle.world_kept.specs.Kept.{Grows, MayMake}
-pub use Rattle.world_state.proofs.Lemmas.{Fits, Follows, FreshIn, Has, InQueue, Items, LinksKept, PlaceKept, ReaderKept, ReadersKept, Stands, before_of, chain_marked, chain_of, changed_else, changed_here, changed_length, decide_number, get_past, grown_same, has_either, has_left, has_right, has_stands, head_of, items_advanced, items_pushed, items_sealed, length_heads, length_written, life_else, life_grown, life_marked, life_of, life_spliced, life_within, link_of, links_grown, links_marked, links_spliced, monotone, new_object, new_within, no_object, not_new, object_at, past_or_within, place_grown, place_marked, place_spliced, queue_at, reader_at, reader_there, readers_over, readers_set, spliced_chain, spliced_length, stage_grown, stage_marked, stage_of, stands_above, stands_last, stands_left, stands_more, stands_within, within, word_of}
+pub use Rattle.world_state.proofs.Lemmas.{Fits, Follows, FreshIn, Has, InQueue, Items, LinksKept, PlaceKept, ReaderKept, ReadersKept, Stands, before_of, chain_marked, chain_of, changed_else, changed_here, changed_length, decide_number, grown_same, has_either, has_left, has_right, has_stands, head_of, items_advanced, items_pushed, items_sealed, length_heads, length_written, life_else, life_grown, life_marked, life_of, life_spliced, life_within, link_of, links_grown, links_marked, links_spliced, monotone, new_object, new_within, no_object, not_new, object_at, place_grown, place_marked, place_spliced, queue_at, reader_at, reader_there, readers_over, readers_set, spliced_chain, spliced_length, stage_grown, stage_marked, stage_of, stands_above, stands_last, stands_left, stands_more, stands_within, within, word_of}
 pub use Rattle.world_state.specs.Limits.{is_in, is_within_limits}
 pub use Rattle.world_state.specs.Objects.{fresh_object, is_linked, marked_life, spliced_heads, spliced_objects}
 pub use Rattle.world_state.specs.Queues.{MayAct, MayActAt, acted, acted_at, changed_at, empty_queue_state, held_at, held_by, item_of, new_worker}

@@ -1,5 +1,5 @@
 -- How events are numbered: each number is at most twice the number of lines, and is given once, and in order.
-use Rattle.world.proofs.Cited.{◌≡◌, inl, ℕ, ◌+◌, ◌*◌, ◌%◌, ◌^◌, ◌<◌, ◌≤◌, true, List, [], ◌∷◌, ◌++◌, length, Option, Some, None, Result, Ok, refl, sym, ap, ◌∙◌, subst, arith, length-append, All, length-replicate, All-from_recursion, Event, Open, Close, First, Next, Touch, Push, Replace, Cut, Retire, Queue, Run, Ask, Clear, ObjectId, SectionId, Refusal, State, start, IsAllowed, AreAllowed, after, after_all, In, in_objects, after_append, at_number_same, Layout, Config, Answer, Events, Line, Change, Read, Begin, Publish, Grace, Work, Mark, ObjectState, is_within_limits, marked_life, Plans, BoardView, told, fresh_at, within, length_heads, spliced_length, length_written, inr, ⊎_elim, got, in_sections, in_numbers, in_more, without_section_has, at_section_same, Kept, SafeIn, linked, cut_last, cut_before, kept_step, kept_start, mod_below, slice_get_within, SyncCore, ReaderState, Holder, RetireStep, UpdaterState, Hold, ◌≢◌, ◌⊎◌, zero, suc, ◌==◌, slice_get, slice_set, IsPermutation, append-nil, filter_map, cons_option, range_with_len, filter_map-append, length-range_with_len, IsPermutation-sym, IsPermutation-middle, eq-eqb, ne_eqb, cond-true, cond-false, none-some, same_Some, section_of, Bool, ReaderStep, ◌-◌, replicate, IsPermutation-refl, IsPermutation-trans, IsPermutation-append_right, IsPermutation-push_more, IsPermutation-pop_more, get_or_from_slice_get, new_core, step_of, SyncStep, QueueAct, UpdaterPlace, Syncs, Retires, WorkerState, WorkerCore, new_reader, changed, idle, reader_at, Life, change_of, with_change, outcome_of, world_after, grace_change, GraceStep, grace_row, place_at, sync_place, retire_on, ask_for}
+use Rattle.world.proofs.Cited.{OpenSeen, open_seen, kept_log, run_parts, append_assoc, IsRun, split_at, set_split, take, drop, ◌≡◌, inl, ℕ, ◌+◌, ◌*◌, ◌%◌, ◌^◌, ◌<◌, ◌≤◌, true, List, [], ◌∷◌, ◌++◌, length, Option, Some, None, Result, Ok, refl, sym, ap, ◌∙◌, subst, arith, length-append, All, length-replicate, All-from_recursion, Event, Open, Close, First, Next, Touch, Push, Replace, Cut, Retire, Queue, Run, Ask, Clear, ObjectId, SectionId, Refusal, State, start, IsAllowed, AreAllowed, after, after_all, In, in_objects, after_append, at_number_same, Layout, Config, Answer, Events, Line, Change, Read, Begin, Publish, Grace, Work, Mark, ObjectState, is_within_limits, marked_life, Plans, BoardView, told, fresh_at, within, length_heads, spliced_length, length_written, inr, ⊎_elim, got, in_sections, in_numbers, at_section_same, Kept, SafeIn, linked, cut_last, cut_before, kept_step, mod_below, slice_get_within, SyncCore, ReaderState, Holder, RetireStep, UpdaterState, Hold, ◌≢◌, ◌⊎◌, zero, suc, ◌==◌, slice_get, slice_set, IsPermutation, append-nil, filter_map, cons_option, range_with_len, filter_map-append, length-range_with_len, IsPermutation-sym, IsPermutation-middle, eq-eqb, ne_eqb, cond-true, cond-false, section_of, Bool, ReaderStep, ◌-◌, replicate, IsPermutation-refl, IsPermutation-trans, IsPermutation-append_right, IsPermutation-push_more, IsPermutation-pop_more, get_or_from_slice_get, new_core, step_of, SyncStep, QueueAct, UpdaterPlace, Syncs, Retires, WorkerState, WorkerCore, new_reader, changed, idle, reader_at, Life, change_of, with_change, outcome_of, world_after, grace_change, GraceStep, grace_row, place_at, sync_place, retire_on, ask_for}
 use Rattle.std.specs.List.{AllByRecursion as Every}
 use Rattle.world.specs.Numbering.{IsFoundWithin, IsNumberedWithin}
 use Rattle.world.proofs.Fence.{Laws}
@@ -38,21 +38,6 @@ low_before now _ most l = l
 low_all : (now : State) (es : List Event) (most : ℕ) → IsLow (after_all now es) most → IsLow now most
 low_all now [] most l = l
 low_all now (e ∷ es) most l = low_before now e most (low_all (after now e) es most l)
-
--- open sections were opened
-abbrev OpenSeen : State → Type 0
-OpenSeen now = (s : SectionId) → In now.sections s → In now.seen s
-
-open_got : (now : State) (s : SectionId) (found : Option ObjectId) → OpenSeen now → OpenSeen (got now s found)
-open_got now s None o = o
-open_got now s (Some p) o = o
-
-open_after : (now : State) (e : Event) → OpenSeen now → OpenSeen (after now e)
-open_after now (Open s) o = λ t h. ⊎_elim (λ (was : In now.sections t). inr (o t was)) (λ (is : s ≡ t). inl is) (in_more now.sections s t h)
-open_after now (Close s) o = λ t h. o t ((without_section_has s now.sections t h).0)
-open_after now (First s c found) o = open_got now s found o
-open_after now (Next s p found) o = open_got now s found o
-open_after now _ o = o
 
 -- what a section holds was put into a chain
 safe_used : (now : State) (s : SectionId) (o : ObjectId) → Kept now → SafeIn now s o → In now.used o
@@ -101,9 +86,15 @@ numbered now (Event.Answer n) most k o a p l = l.asks n (in_numbers now.asked n 
 numbered now (Event.Bar n) most k o a p l = l.barriers n (inl refl)
 numbered now (Clear n) most k o a p l = l.barriers n (in_numbers now.noted n a.0)
 
-all_numbered : (now : State) (es : List Event) (most : ℕ) → Kept now → OpenSeen now → AreAllowed now es → Every IsPlaced es → IsLow (after_all now es) most → Every (IsNumberedWithin most) es
-all_numbered now [] most k o a p l = tt
-all_numbered now (e ∷ es) most k o a p l = (numbered now e most k o a.0 p.0 (low_all (after now e) es most l), all_numbered (after now e) es most (kept_step now e k a.0) (open_after now e o) a.1 p.1 l)
+all_numbered : (log es : List Event) (most : ℕ) → IsRun (log ++ es) → Every IsPlaced es → IsLow (after_all start (log ++ es)) most → Every (IsNumberedWithin most) es
+all_numbered log [] most run p l = tt
+all_numbered log (e ∷ es) most run p l =
+    let now = after_all start log in
+    let parts = run_parts (log ++ e ∷ es) log (e ∷ es) run refl in
+    let more : log ++ e ∷ es ≡ (log ++ e ∷ []) ++ es = sym (append_assoc log (e ∷ []) es) in (
+      numbered now e most (kept_log log parts.0) (open_seen log parts.0) parts.1.0 p.0 (low_all (after now e) es most (subst (λ (s : State). IsLow s most) (sym parts.2) l)),
+      all_numbered (log ++ e ∷ []) es most (subst (λ (xs : List Event). IsRun xs) more run) p.1 (subst (λ (xs : List Event). IsLow (after_all start xs) most) more l),
+    )
 
 -- ---- where they name it
 
@@ -265,7 +256,7 @@ module _ {P : Type 0} (plans : Plans P) (layout : Layout) (slots : ℕ) (laws : 
     }
 
     log_numbered : All (IsNumberedWithin (2 * n)) w.log
-    log_numbered = All-from_recursion (IsNumberedWithin (2 * n)) w.log (all_numbered start w.log (2 * n) kept_start (λ s h. absurd h) c.logged.run c.placed low)
+    log_numbered = All-from_recursion (IsNumberedWithin (2 * n)) w.log (all_numbered [] w.log (2 * n) c.logged.run c.placed low)
 
 module _ {P : Type 0} (plans : Plans P) (laws : (layout : Layout) (slots : ℕ) → Laws plans layout slots) where
   pub numbers : (config : Config) (seq : ℕ) (lines : List Line) → is_within_limits config ≡ true → seq % 2 ≡ 0 → seq ≤ 2 ^ 62 → All (IsNumberedWithin (2 * length lines)) (world_after plans (fresh_at config seq) lines).log
@@ -315,52 +306,34 @@ given_more f log es n n' (inr next) is =
     filter_map-append f log es ∙ ap (λ ns. filter_map f log ++ ns) next.0 ∙ ap (λ ns. ns ++ (n + 1) ∷ []) is
     ∙ sym (range_more n) ∙ ap (range_with_len 1) (sym next.1)
 
--- a section that opens is its reader's
-pub opened_here : (r n : ℕ) → filter_map (ordinal_of r) (Open (section_of r n) ∷ []) ≡ n ∷ []
-opened_here r n = ap (λ o. cons_option o []) (cond-true (r == r) (Some n) None (eq-eqb r r refl))
-
-pub opened_else : (r s n : ℕ) → s ≢ r → filter_map (ordinal_of s) (Open (section_of r n) ∷ []) ≡ []
-opened_else r s n other = ap (λ o. cons_option o []) (cond-false (r == s) (Some n) None (ne_eqb r s (λ e. other (sym e))))
-
--- one of a list is there, and may be set
-record Split {X : Type 0} (xs : List X) (i : ℕ) (x : X) : Type 0 where
-  front : List X
-  back : List X
-  is : xs ≡ front ++ x ∷ back
-  set : (y : X) → slice_set xs i y ≡ front ++ y ∷ back
-
-split : {X : Type 0} (xs : List X) (i : ℕ) (x : X) → slice_get xs i ≡ Some x → Split xs i x
-split [] i x e = absurd (none-some x e)
-split (y ∷ xs) zero x e = record { front = []; back = xs; is = ap (λ z. z ∷ xs) (same_Some y x e); set = λ z. refl }
-split (y ∷ xs) (suc i) x e = let s = split xs i x e in record { front = y ∷ s.front; back = s.back; is = ap (λ l. y ∷ l) s.is; set = λ z. ap (λ l. y ∷ l) (s.set z) }
-
+-- one of a list is there, and is set
 module _ {P : Type 0} (us : List (UpdaterState P)) (u : ℕ) (x y : UpdaterState P) (was : slice_get us u ≡ Some x) where
-  s : Split us u x
-  s = split us u x was
+  inside : u < length us
+  inside = slice_get_within us u x was
 
   abbrev made_in : List (UpdaterState P) → List ℕ
   made_in = filter_map made_by
 
-  before : made_in us ≡ made_in s.front ++ cons_option (made_by x) (made_in s.back)
-  before = ap made_in s.is ∙ filter_map-append made_by s.front (x ∷ s.back)
+  before : made_in us ≡ made_in (take u us) ++ cons_option (made_by x) (made_in (drop (suc u) us))
+  before = ap made_in (split_at us u x inside ∙ ap (λ z. take u us ++ z ∷ drop (suc u) us) (get_or_from_slice_get us u x x was)) ∙ filter_map-append made_by (take u us) (x ∷ drop (suc u) us)
 
-  behind : made_in (slice_set us u y) ≡ made_in s.front ++ cons_option (made_by y) (made_in s.back)
-  behind = ap made_in (s.set y) ∙ filter_map-append made_by s.front (y ∷ s.back)
+  behind : made_in (slice_set us u y) ≡ made_in (take u us) ++ cons_option (made_by y) (made_in (drop (suc u) us))
+  behind = ap made_in (set_split us u y inside) ∙ filter_map-append made_by (take u us) (y ∷ drop (suc u) us)
 
   pub made_same : made_by y ≡ made_by x → filter_map made_by (slice_set us u y) ≡ filter_map made_by us
-  made_same same = behind ∙ ap (λ o. made_in s.front ++ cons_option o (made_in s.back)) same ∙ sym before
+  made_same same = behind ∙ ap (λ o. made_in (take u us) ++ cons_option o (made_in (drop (suc u) us))) same ∙ sym before
 
   pub made_more : (n : ℕ) → made_by x ≡ None → made_by y ≡ Some n → IsPermutation (n ∷ filter_map made_by us) (filter_map made_by (slice_set us u y))
   made_more n none has =
-      subst (λ l. IsPermutation (n ∷ l) (made_in (slice_set us u y))) (sym (before ∙ ap (λ o. made_in s.front ++ cons_option o (made_in s.back)) none))
-      (subst (λ l. IsPermutation (n ∷ (made_in s.front ++ made_in s.back)) l) (sym (behind ∙ ap (λ o. made_in s.front ++ cons_option o (made_in s.back)) has))
-      (IsPermutation-sym _ _ (IsPermutation-middle (made_in s.front) n (made_in s.back))))
+      subst (λ l. IsPermutation (n ∷ l) (made_in (slice_set us u y))) (sym (before ∙ ap (λ o. made_in (take u us) ++ cons_option o (made_in (drop (suc u) us))) none))
+      (subst (λ l. IsPermutation (n ∷ (made_in (take u us) ++ made_in (drop (suc u) us))) l) (sym (behind ∙ ap (λ o. made_in (take u us) ++ cons_option o (made_in (drop (suc u) us))) has))
+      (IsPermutation-sym _ _ (IsPermutation-middle (made_in (take u us)) n (made_in (drop (suc u) us)))))
 
   pub made_less : (n : ℕ) → made_by x ≡ Some n → made_by y ≡ None → IsPermutation (filter_map made_by us) (n ∷ filter_map made_by (slice_set us u y))
   made_less n has none =
-      subst (λ l. IsPermutation l (n ∷ made_in (slice_set us u y))) (sym (before ∙ ap (λ o. made_in s.front ++ cons_option o (made_in s.back)) has))
-      (subst (λ l. IsPermutation (made_in s.front ++ n ∷ made_in s.back) (n ∷ l)) (sym (behind ∙ ap (λ o. made_in s.front ++ cons_option o (made_in s.back)) none))
-      (IsPermutation-middle (made_in s.front) n (made_in s.back)))
+      subst (λ l. IsPermutation l (n ∷ made_in (slice_set us u y))) (sym (before ∙ ap (λ o. made_in (take u us) ++ cons_option o (made_in (drop (suc u) us))) has))
+      (subst (λ l. IsPermutation (made_in (take u us) ++ n ∷ made_in (drop (suc u) us)) (n ∷ l)) (sym (behind ∙ ap (λ o. made_in (take u us) ++ cons_option o (made_in (drop (suc u) us))) none))
+      (IsPermutation-middle (made_in (take u us)) n (made_in (drop (suc u) us))))
 
 -- ---- what a reader's step tells: the next section, where one opens, and no ask, barrier or new object
 
@@ -465,13 +438,8 @@ module _ {P : Type 0} where
 
 module _ {P : Type 0} (plans : Plans P) (layout : Layout) (slots : ℕ) (laws : Laws plans layout slots) (w : BoardView P) (l : Logged plans layout slots laws w) where
   -- nobody rests before its ask
-  asked_before : (u : ℕ) (x : UpdaterState P) (ask : ℕ) → WasAt plans w u x (Syncs ask SyncCore.Asks) → ⊥
-  asked_before u x ask at =
-      subst (λ (p : UpdaterPlace P). UpdaterKept w.heads w.objects (length w.updaters) u p)
-      (stands_at w.updaters u x at.was at.at) (l.kept.places_kept u)
-
   next_ask : (u : ℕ) (x : UpdaterState P) (ask : ℕ) (sync : SyncCore P) → WasAt plans w u x (Syncs ask sync) → sync ≡ SyncCore.Asks → ask ≡ w.grace.asks + 1
-  next_ask u x ask sync at e = absurd (asked_before u x ask (record { was = at.was; at = at.at ∙ ap (Syncs ask) e }))
+  next_ask u x ask sync at e = absurd (subst (λ (p : UpdaterPlace P). UpdaterKept w.heads w.objects (length w.updaters) u p) (stands_at w.updaters u x at.was (at.at ∙ ap (Syncs ask) e)) (l.kept.places_kept u))
 
   -- what a step of a grace period tells: an ask, an answer, or nothing
   asks_tell : (me : Holder) (ask : ℕ) (sync : SyncCore P) (step : GraceStep P) → (sync ≡ SyncCore.Asks → ask ≡ w.grace.asks + 1) → Fits plans w me ask sync step → Grows ask_of (told step.answer) w.grace.asks step.grace.asks
@@ -523,7 +491,7 @@ module _ {P : Type 0} (plans : Plans P) (layout : Layout) (slots : ℕ) (laws : 
           ⊎_elim
           (λ (n : ((s : ℕ) → filter_map (ordinal_of s) (told step.answer) ≡ []) × (step.state.ordinal ≡ v.ordinal)). inl (n.0 r, n.1 ∙ sym old))
           (λ (n : ((s : ℕ) → filter_map (ordinal_of s) (told step.answer) ≡ filter_map (ordinal_of s) (Event.Open (section_of r (v.ordinal + 1)) ∷ [])) × (step.state.ordinal ≡ v.ordinal + 1)).
-          inr (n.0 r ∙ opened_here r (v.ordinal + 1) ∙ ap (λ k. (k + 1) ∷ []) (sym old), n.1 ∙ ap (λ k. k + 1) (sym old)))
+          inr (n.0 r ∙ ap (λ o. cons_option o []) (cond-true (r == r) (Some (v.ordinal + 1)) None (eq-eqb r r refl)) ∙ ap (λ k. (k + 1) ∷ []) (sym old), n.1 ∙ ap (λ k. k + 1) (sym old)))
           o.sections
 
       none : (s : ℕ) → s ≢ r → filter_map (ordinal_of s) (told step.answer) ≡ []
@@ -531,7 +499,7 @@ module _ {P : Type 0} (plans : Plans P) (layout : Layout) (slots : ℕ) (laws : 
           ⊎_elim
           (λ (n : ((s : ℕ) → filter_map (ordinal_of s) (told step.answer) ≡ []) × (step.state.ordinal ≡ v.ordinal)). n.0 s)
           (λ (n : ((s : ℕ) → filter_map (ordinal_of s) (told step.answer) ≡ filter_map (ordinal_of s) (Event.Open (section_of r (v.ordinal + 1)) ∷ [])) × (step.state.ordinal ≡ v.ordinal + 1)).
-          n.0 s ∙ opened_else r s (v.ordinal + 1) other)
+          n.0 s ∙ ap (λ o. cons_option o []) (cond-false (r == s) (Some (v.ordinal + 1)) None (ne_eqb r s (λ e. other (sym e)))))
           o.sections
 
   moves_updates : (u : ℕ) (x : UpdaterState P) → UpdaterRows plans w u x (λ v. MovesBy w)

@@ -1,14 +1,16 @@
 -- A drain's steps: where a worker stands alone, its next line is made, and leads to where it stands with one step less.
-use Rattle.world.proofs.Cited.{nil_from_length, ◌≡◌, ◌≢◌, ◌↔◌, ℕ, zero, suc, ◌+◌, ◌*◌, ◌%◌, ◌^◌, ◌<◌, ◌≤◌, ltb, cond_both, Bool, true, false, not, List, [], ◌∷◌, length, length-append, slice_get, slice_set, Option, Some, None, Result, Ok, refl, sym, ap, ◌∙◌, subst, arith, or_parts, le-leb, lt-leb, lt-ltb, ltb-true, ltb-false, Refusal, Layout, Narrow, Wide, Item, items_of, after_advance, Action, Load, StoreSeq, Finished, after_loads, FinishesAfter, each_turn, turn_at, turn_count, went_on, SyncCore, WorkerCore, rest_of, turned, is_finished, Change, Work, Answer, Quiet, Worker, Mark, QueueAct, QueueState, ReaderState, GraceState, Holder, WorkerState, acted, changed_at, is_open_in, Items, Plans, BoardView, told, ◌-◌, cond, replicate, Err, ne_eqb, Busy, Exhausted, get_or_from_slice_get, none_some, empty_queue_state, inl, inr, MembPlan, QsbrPlan, Line, Turn, WorkerVerb, stepped, loaded_word, action_effect, lock_effect, done_with, plan_now, operation_test, change_of, with_change, outcome_of, world_after, IsPrompt, IsMade, OfMemb, OfQsbr, memb_plans, qsbr_plans, worked, worker_on, with_core, is_resting, is_none_left, some_open, IsWork, steps_for, drain_lines, is_busy, items_in, items_to_drain, steps_with, HasDrained, AreMadeFrom, Tells, Drains, IsSettled, AreMade, MeetsDrain, IsReached, slice_get_within, slice_get-get_or, length-set, get_or-set_same}
+use Rattle.world.proofs.Cited.{start, after_all, nil_from_length, ◌≡◌, ◌≢◌, ◌↔◌, ℕ, zero, suc, ◌+◌, ◌*◌, ◌%◌, ◌^◌, ◌<◌, ◌≤◌, ltb, cond_both, Bool, true, false, not, List, [], ◌∷◌, length, length-append, slice_get, slice_set, Option, Some, None, Result, Ok, refl, sym, ap, ◌∙◌, subst, arith, or_parts, le-leb, lt-leb, lt-ltb, ltb-true, ltb-false, Refusal, Layout, Narrow, Wide, Item, items_of, after_advance, Action, Load, StoreSeq, Finished, after_loads, FinishesAfter, each_turn, turn_at, turn_count, went_on, SyncCore, WorkerCore, rest_of, turned, is_finished, Change, Work, Answer, Quiet, Worker, Mark, QueueAct, QueueState, ReaderState, GraceState, Holder, WorkerState, acted, changed_at, is_open_in, Items, Plans, BoardView, told, ◌-◌, cond, replicate, Err, ne_eqb, Busy, Exhausted, get_or_from_slice_get, none_some, empty_queue_state, inl, inr, MembPlan, QsbrPlan, Line, Turn, WorkerVerb, stepped, loaded_word, action_effect, lock_effect, done_with, plan_now, operation_test, change_of, with_change, outcome_of, world_after, IsPrompt, IsMade, OfMemb, OfQsbr, memb_plans, qsbr_plans, worked, worker_on, with_core, is_resting, is_none_left, some_open, steps_for, drain_lines, is_busy, items_in, items_to_drain, steps_with, HasDrained, AreMadeFrom, Tells, Drains, IsSettled, AreMade, MeetsDrain, IsReached, slice_get_within, slice_get-get_or, length-set, get_or-set_same}
 use Rattle.callback_queue.specs.Queue.{Queue}
 use Rattle.call_rcu_worker.specs.declared.worker.Tickets.{Tickets}
 use Rattle.world.specs.Row.{after, made}
 use Rattle.world.proofs.Rows.{unplanned, rest_tells, not_false, none_is}
-use Rattle.std.specs.Prelude.{is_some}
+use Rattle.std.specs.Prelude.{is_some, OnErr}
+use Rattle.world.specs.Lines.{Outcome}
+use Rattle.world.specs.Shown.{Meets}
 use Rattle.world.proofs.Promises.{reached_step, memb_lines, qsbr_lines}
 use Rattle.world.proofs.WorkerSteps.{all_fresh}
 use Rattle.world.proofs.Fence.{Laws, Work as Works, Holds}
-use Rattle.world.proofs.Moving.{work_now}
+use Rattle.world.proofs.Callbacks.{its_work}
 use Rattle.world.proofs.Logged.{Logged, within_limits, logged}
 use Rattle.world.proofs.State.{holder_of}
 
@@ -111,7 +113,6 @@ module _ {P : Type 0} (plans : Plans P) where
 
   -- a line is made, and leads there
   pub record Goes (w : BoardView P) (k left goal : ℕ) (r : Result (Change P) Refusal) : Type 0 where
-    pub work : IsWork r
     pub made : IsMade (with_change w r).answer
     pub drain : Drain ((with_change w r).world) k left goal
 
@@ -123,7 +124,6 @@ module _ {P : Type 0} (plans : Plans P) where
     pub leads : {y : WorkerState P} {grace : GraceState} {done : QueueAct} {mark : Option Mark} {answer : Answer} (later : ℕ) → IsPrompt answer → length (told answer) + later ≡ events →
         Stands w.layout (turn_count plans.qsbr (length w.readers)) grace (acted done q).items left later y.core → Goes w k left goal (Ok (Work k y grace done mark answer))
     leads {y} {done} {answer} later prompt tells stands = record {
-      work = refl;
       made = prompt;
       drain = record {
         x = y;
@@ -184,6 +184,11 @@ module _ {P : Type 0} (plans : Plans P) where
   -- a line that goes on
   pub goes_at : AreSound → (w : BoardView P) (k left goal : ℕ) → Drain w k (suc left) goal → Goes w k left goal (change_of plans w (Worker k WorkerVerb.GoOn))
   goes_at sound w k left goal d = rw d.is (goes w k left goal d.x d.q d.is d.has d.closed d.events d.logged sound d.x.core d.stands)
+
+-- where the log has room, a step leaves the world of its outcome
+pub made_in_room : {P : Type 0} (outcome : Outcome P) (old new : BoardView P) (r : Result Answer Refusal) → Meets outcome old new r → OnErr r (outcome.world ≡ old) → new ≡ outcome.world
+made_in_room outcome old new (Ok a) meets none = meets.1
+made_in_room outcome old new (Err e) meets none = meets.0 ∙ sym none
 
 -- ---- a drain from its `take` to its last count, on the board's definitions
 
@@ -264,18 +269,16 @@ module _ {P : Type 0} (plans : Plans P) where
 
   -- a round of the loop
   pub record Round (final w : BoardView P) (k left goal room : ℕ) : Type 0 where
-    pub work : IsWork (change_of plans w (Worker k WorkerVerb.GoOn))
     pub fits : length (next w k).log ≤ room
-    pub under : Under final (next w k) k left goal room
+    pub under : (more : ℕ) → room ≤ more → Under final (next w k) k left goal more
 
   pub round : AreSound plans → (final w : BoardView P) (k done steps goal room : ℕ) → done < steps → Under final w k (steps - done) goal room → Round final w k (steps - (done + 1)) goal room
   round sound final w k done steps goal room less under =
       let u = subst (λ n. Under final w k n goal room) (let one : steps - done ≡ suc (steps - (done + 1)) = omega (arith, less) in one) under in
       let g = goes_at plans sound w k (steps - (done + 1)) goal u.drain in
       record {
-        work = g.work;
         fits = let logged = g.drain.logged in let fits = u.fits in omega (arith, logged, fits);
-        under = record { drain = g.drain; leads_to = u.leads_to; reached = reached_step plans w (Worker k WorkerVerb.GoOn) u.reached; fits = u.fits };
+        under = λ more grows. record { drain = g.drain; leads_to = u.leads_to; reached = reached_step plans w (Worker k WorkerVerb.GoOn) u.reached; fits = let fits = u.fits in omega (arith, fits, grows) };
       }
 
   module _ (w : BoardView P) (k items : ℕ) (e : items_to_drain plans.qsbr w k ≡ Ok items) (s : IsSettled w) where
@@ -306,6 +309,9 @@ module _ {P : Type 0} (plans : Plans P) where
           rw (b.is, rests.3, b.has, rests.2, some_left (items_of b.q.items) (λ none. let n = sym b.count ∙ ap length none in omega (arith, n, some)), rests.3, lt-ltb 0 (length b.q.items.fresh) (omega (arith, fresh, some)))
           (leads plans w k behind goal b.x b.q b.is b.has rests.0 (items + 2) refl (items + 2) tt (omega arith) (omega (arith, fresh), omega (arith, fresh), (omega (arith, fresh, some), ap length empty.0, refl, refl), rests.1, s.even rests.1, b.below some))
 
+      pub first_fits : (room : ℕ) → goal ≤ room → length ((outcome_of plans w (Worker k WorkerVerb.Take)).world).log ≤ room
+      first_fits room fits = let logged = first.drain.logged in omega (arith, logged, fits)
+
       -- all its lines are made, and lead to its end
       whole : (steps : ℕ) → steps ≡ steps_for plans.qsbr (length w.readers) items → AreMadeFrom plans w (drain_lines k steps) × Drain plans (world_after plans w (drain_lines k steps)) k 0 goal
       whole steps is =
@@ -332,7 +338,7 @@ module _ {P : Type 0} (plans : Plans P) where
 settled_from : {P : Type 0} (plans : Plans P) (layout : Layout) (slots : ℕ) (laws : Laws plans layout slots) (w : BoardView P) → Logged plans layout slots laws w → slots ≤ 64 → IsSettled w
 settled_from {P} plans layout slots laws w l few = record {
   even = λ free. l.kept.part.grace_kept.even (λ x a c p runs. none_some x (sym (ap holder_of free) ∙ l.kept.part.grace_kept.held x (subst (λ (v : Works P). Holds v) (sym runs) tt)));
-  rested = λ k x q is has idle. rw (get_or_from_slice_get w.queues k q empty_queue_state has) at (work_now plans layout slots laws w l k x WorkerCore.Idle (record { was = is; at = idle }));
+  rested = λ k x q is has idle. rw (get_or_from_slice_get w.queues k q empty_queue_state has) at (its_work w (after_all start w.log) l.callbacks k x is idle);
   few_readers = subst (λ n. n ≤ 64) (sym l.kept.shape.sized) few;
 }
 

@@ -251,10 +251,6 @@ module _ {P : Type 0} {plans : Plans P} {layout : Layout} {slots : ℕ} {laws : 
       others (Polling v) apart = refl
       others (Working m) apart = ap (λ (y : WorkerState P). worker_work y.ask y.core) (get_or-set_other w.workers n m x new_worker (λ e. apart (ap Working e)))
 
-  -- a worker that rests goes on resting
-  works_still : (n : ℕ) (x : WorkerState P) → n < length w.workers → worker_work (worker_at w.workers n).ask (worker_at w.workers n).core ≡ Rests → worker_work x.ask x.core ≡ Rests → PartBy k (work_of w.updaters (slice_set w.workers n x))
-  works_still n x inside was is = subst (PartBy k) (set_same decide_asker (worker_set n x inside) (was ∙ sym is)) k.part
-
   -- a worker's step, with what it makes of grace periods
   pub kept_work : (n : ℕ) (x : WorkerState P) (queues' : List QueueState) (mark : Option Mark) (grace : GraceState) (log' : List Event) (asked answered : List ℕ) (awaited : ℕ → List SectionId) → length w.log ≤ length log' →
       (plans.qsbr ≡ true → w.grace.word ≤ grace.word) → (plans.qsbr ≡ false → grace.word ≤ 1) → grace.seq ≤ 2 ^ 62 + 2 → grace.asks ≤ length log' →
@@ -272,4 +268,5 @@ module _ {P : Type 0} {plans : Plans P} {layout : Layout} {slots : ℕ} {laws : 
       worker_work (worker_at w.workers n).ask (worker_at w.workers n).core ≡ Rests → worker_work x.ask x.core ≡ Rests →
       Kept plans layout slots laws (record w { workers = slice_set w.workers n x; queues = queues'; objects = marked_life w.objects mark; log = log' }) now
   kept_worker n x queues' mark log' inside longer was is =
-      kept_work n x queues' mark w.grace log' now.asked now.answered now.asked_sections longer (λ q. omega arith) k.phase_low k.seq_low (let low = k.asks_low in omega (arith, low, longer)) (works_still n x inside was is)
+      kept_work n x queues' mark w.grace log' now.asked now.answered now.asked_sections longer (λ q. omega arith) k.phase_low k.seq_low (let low = k.asks_low in omega (arith, low, longer))
+      (subst (PartBy k) (set_same decide_asker (worker_set n x inside) (was ∙ sym is)) k.part)

@@ -1,15 +1,12 @@
 -- What the steps of readers keep, and that what they tell may come.
-use Rattle.world.proofs.Cited.{slice_get-get_or, slice_get_past, get_past, past_or_within, get_or, ◌≡◌, ◌≢◌, inl, ⊎_elim, ℕ, ◌+◌, ◌<◌, ◌≤◌, ◌==◌, not, Bool, true, false, List, [], ◌∷◌, ◌++◌, length, slice_get, slice_set, Option, Some, None, Ok, refl, sym, ap, ◌∙◌, subst, arith, true≢false, length-append, length-set, eqb-true, eqb-false, ne_eqb, slice_get_within, get_or_from_slice_get, Event, Open, Close, First, Next, Touch, ObjectId, SectionId, without_section, at_section, first_of, next_of, State, got, IsSuccessor, In, in_sections, has_section_in, in_objects, has_object_in, in_left, in_last, in_more, without_section_has, has_without_section, at_section_same, at_section_other, some_is, none_some, first_has, follows_has, Layout, count_of, phase_in, is_open_of, left_of, announced, entered_of-nests, entered_of-opens, left_of-nests, Shows, Answer, Events, Quiet, ReaderState, ReaderStep, ObjectState, Stage, Fresh, Linked, Read, Plans, BoardView, told, changed, section_of, new_reader, is_open_in, quietly, telling, with_word, opened, closed, with_cursor, found_row, no_object, link_of, stage_of, chain_of, LinksKept, reader_at, ReaderKept, readers_set}
+use Rattle.world.proofs.Cited.{get_or, ◌≡◌, ◌≢◌, inl, ⊎_elim, ℕ, ◌+◌, ◌<◌, ◌≤◌, ◌==◌, not, Bool, true, false, List, [], ◌∷◌, ◌++◌, length, slice_get, slice_set, Option, Some, None, Ok, refl, sym, ap, ◌∙◌, subst, arith, true≢false, length-append, length-set, eqb-true, eqb-false, ne_eqb, slice_get_within, get_or_from_slice_get, Event, Open, Close, First, Next, Touch, ObjectId, SectionId, without_section, at_section, first_of, next_of, State, got, IsSuccessor, In, in_sections, has_section_in, in_objects, has_object_in, in_left, in_last, in_more, without_section_has, has_without_section, at_section_same, at_section_other, some_is, none_some, first_has, follows_has, Layout, count_of, phase_in, is_open_of, left_of, announced, entered_of-nests, entered_of-opens, left_of-nests, Shows, Answer, Events, Quiet, ReaderState, ReaderStep, ObjectState, Stage, Fresh, Linked, Read, Plans, BoardView, told, changed, section_of, new_reader, is_open_in, quietly, telling, with_word, opened, closed, with_cursor, found_row, no_object, link_of, stage_of, chain_of, LinksKept, reader_at, ReaderKept, readers_set}
 use Rattle.world.proofs.Fence.{Laws, Part, part_words}
-use Rattle.world.proofs.Rows.{Copies, Nests, Unnests, Unlocks, Leaves, Enters, GoesOnline, Announces, Firsts, Nexts, Touches, ReaderRows, not_false}
+use Rattle.world.proofs.Rows.{Copies, Nests, Unnests, Unlocks, Leaves, Enters, GoesOnline, Announces, Firsts, Nexts, Touches, ReaderRows, not_false, by_entry}
 use Rattle.world.proofs.State.{at_each, holder_of, work_of, word_at, Kept, Owes}
 
 -- what is read of an entry of a list, there or past its end
 pub entry_is : {X Y : Type 0} (f : Option X → Y) (xs : List X) (i : ℕ) (d : X) → f None ≡ f (Some d) → f (slice_get xs i) ≡ f (Some (get_or xs i d))
-entry_is f xs i d none = ⊎_elim
-    (λ (l : i < length xs). ap f (slice_get-get_or xs i d l))
-    (λ (g : length xs ≤ i). ap f (slice_get_past xs i g) ∙ none ∙ sym (ap (λ x. f (Some x)) (get_past xs i d g)))
-    (past_or_within xs i)
+entry_is f xs i d none = by_entry (λ o x. f o ≡ f (Some x)) xs i d none (λ x is. refl)
 
 -- a log with more behind it is longer
 pub longer : (log es : List Event) → length log ≤ length (log ++ es)

@@ -1,14 +1,9 @@
 -- What a section's word is made of: the phase or number that was present at its reader's line before.
-use Rattle.world.proofs.Cited.{◌≡◌, ◌≢◌, ◌⊎◌, ℕ, true≢false, inl, inr, ◌==◌, cond, Bool, true, false, IsTrue, List, [], ◌∷◌, ◌++◌, get_or, slice_get, slice_set, Option, Some, None, Result, Ok, Err, refl, sym, ap, ◌∙◌, subst, get_or-set_same, get_or-set_other, cond-true, cond-false, eqb_tells, get_or_from_slice_get, slice_get_within, Refusal, Layout, count_of, fresh, entered_of, announced, Config, Answer, Line, Reader, Updater, Worker, ReaderState, ReaderStep, Change, Read, Stay, new_reader, quietly, with_word, announce_row, go_online_row, Plans, BoardView, changed, fresh_at, QsbrPlan, Flavour, Memb, Qsbr, ReaderVerb, with_change, outcome_of, change_of, of_reader, IsOfReader, IsStalled, OfQsbr, qsbr_plans, fresh_in, made}
+use Rattle.world.proofs.Cited.{◌≡◌, ◌≢◌, ◌⊎◌, ℕ, true≢false, inl, inr, ◌==◌, cond, Bool, true, false, IsTrue, List, [], ◌∷◌, ◌++◌, get_or, slice_get, slice_set, Option, Some, None, Result, Ok, Err, refl, sym, ap, ◌∙◌, subst, get_or-set_same, get_or-set_other, cond-true, cond-false, eqb_tells, get_or_from_slice_get, slice_get_within, Refusal, Layout, count_of, fresh, announced, Config, Answer, Line, Reader, Updater, Worker, ReaderState, ReaderStep, Change, Read, Stay, new_reader, quietly, with_word, announce_row, go_online_row, Plans, BoardView, changed, fresh_at, QsbrPlan, Flavour, Memb, Qsbr, ReaderVerb, with_change, outcome_of, change_of, of_reader, IsOfReader, IsStalled, OfQsbr, qsbr_plans, fresh_in, made}
 use Rattle.world.specs.Loads.{Move, opens_section, word_for, StoresWhatItLoaded, made_by, move_of, moves_of}
 use Rattle.world.proofs.Logged.{get_replicate}
 use Rattle.world.proofs.Rows.{Copies, Nests, Unnests, Unlocks, Leaves, Enters, GoesOnline, Announces, Firsts, Nexts, Touches, ReaderRows, IsUpdate, any_retires, any_updates, any_works, Each, Law, by_law}
 use Rattle.world.specs.Layouts.{answers_to, laid_out}
-
--- a lock of a closed word stores a fresh one
-entered_fresh : (layout : Layout) (word after : ℕ) (phase : Bool) → (count_of layout word == 0) ≡ true → entered_of layout word phase ≡ Ok after → after ≡ fresh layout phase
-entered_fresh layout word after phase closed entered =
-    let is : Ok (fresh layout phase) ≡ Ok after = sym (cond-true (count_of layout word == 0) _ _ closed) ∙ entered in cc
 
 -- ---- a reader's row
 
@@ -43,7 +38,8 @@ module _ {P : Type 0} (qsbr : Bool) (w : BoardView P) (r : ℕ) (v : ReaderState
   loads _ (Unlocks word none flavour is zero) = plain _ refl none
   loads _ (Leaves none flavour online) = plain _ refl none
   loads _ (Enters copied word has flavour is) =
-      opening _ copied has (λ closed. entered_fresh w.layout v.word word (copied == 1) (closed flavour) is ∙ sym (cond-false qsbr (announced copied) (fresh w.layout (copied == 1)) flavour)) refl
+      opening _ copied has (λ closed. let same : Ok (fresh w.layout (copied == 1)) ≡ Ok word = sym (cond-true (count_of w.layout v.word == 0) _ _ (closed flavour)) ∙ is in
+      let new : word ≡ fresh w.layout (copied == 1) = cc in new ∙ sym (cond-false qsbr (announced copied) (fresh w.layout (copied == 1)) flavour)) refl
   loads _ (GoesOnline copied has flavour offline) = opening (go_online_row copied r v) copied has (λ closed. sym (cond-true qsbr (announced copied) (fresh w.layout (copied == 1)) flavour)) refl
   loads _ (Announces copied has flavour online) = opening (announce_row copied r v) copied has (λ closed. sym (cond-true qsbr (announced copied) (fresh w.layout (copied == 1)) flavour)) refl
   loads _ (Firsts c head none open' is) = plain _ refl none

@@ -1,6 +1,6 @@
 -- The world's log is a run, and the world stands as the machine does after it: for every line, and every list of lines.
-use Rattle.world.proofs.Cited.{length-replicate, ◌≡◌, ℕ, true≢false, zero, suc, ◌+◌, ◌%◌, ◌^◌, ◌≤◌, nat_le, true, List, [], ◌∷◌, ◌++◌, length, get_or, replicate, slice_get, Option, Some, None, Result, Ok, Err, refl, sym, ap, ◌∙◌, subst, arith, and_parts, leb-true, Event, ObjectId, Refusal, State, start, after_all, IsRun, IsPlace, follows, none_some, allowed_append, after_append, Layout, Config, Line, Fresh, ReaderState, UpdaterState, UpdaterPlace, Idle, Publishes, Syncs, Change, Read, Begin, Publish, is_in, is_within_limits, new_reader, fresh_object, Plans, BoardView, idle, fresh_at, changed, no_object, word_of, ReaderKept, not_new, InQueue, queue_at, WorkerState, new_worker, Life, QueueState, empty_queue_state, SyncCore, new_core, Holder, Publishing, next_object, change_of, with_change, outcome_of, world_after}
-use Rattle.world.proofs.Rows.{ByPush, ByReplace, ByCut, ByPushed, ByReplaced, BySync, ByTurn, ByStart, ByPoll, ByHold, ByRetire, ByBarrier, ByNote, ByCheck, ByClear, ReaderRows, UpdaterRows, Each, Law, by_law, over_line}
+use Rattle.world.proofs.Cited.{AwaitsOpen, awaits_open, length-replicate, ◌≡◌, ℕ, true≢false, zero, suc, ◌+◌, ◌%◌, ◌^◌, ◌≤◌, nat_le, true, List, [], ◌∷◌, ◌++◌, length, get_or, replicate, slice_get, Option, Some, None, Result, Ok, refl, sym, ap, ◌∙◌, subst, arith, and_parts, leb-true, Event, ObjectId, Refusal, State, start, after_all, IsRun, IsPlace, follows, none_some, allowed_append, after_append, Layout, Config, Line, Fresh, ReaderState, UpdaterState, UpdaterPlace, Idle, Publishes, Syncs, Change, Read, Begin, Publish, is_in, is_within_limits, new_reader, fresh_object, Plans, BoardView, idle, fresh_at, changed, no_object, word_of, ReaderKept, not_new, InQueue, queue_at, WorkerState, new_worker, Life, QueueState, empty_queue_state, SyncCore, new_core, Holder, Publishing, next_object, with_change, outcome_of, world_after}
+use Rattle.world.proofs.Rows.{ByPush, ByReplace, ByCut, ByPushed, ByReplaced, BySync, ByTurn, ByStart, ByPoll, ByHold, ByRetire, ByBarrier, ByNote, ByCheck, ByClear, ReaderRows, UpdaterRows, Law, by_change, over_line}
 use Rattle.world.proofs.Fence.{Work, Rests, Pending, Holds, Laws}
 use Rattle.world.proofs.State.{Asker, Syncing, Polling, Working, place_work, started_work, worker_work, worker_at, work_of, UpdaterKept, told_by, log_after, Kept, Owes, IsUnderWay}
 use Rattle.world.proofs.KeptReaders.{there as reader_there, OwesRead, owes_reads}
@@ -60,14 +60,14 @@ module _ {P : Type 0} (plans : Plans P) (layout : Layout) (slots : ℕ) (laws : 
       updates _ _ (ByCheck b q at is up more) = owes_check k c u x t b at.at q is up more
       updates _ _ (ByClear b q at is up last) = owes_clear k c u x t b at.at q is up last
 
-    owes : Law plans w (λ line change. OwesNow (Ok change))
-    owes = record {
+    owes : AwaitsOpen now → Law plans w (λ line change. OwesNow (Ok change))
+    owes opens = record {
       stays = λ line answer never none. (tt, k, c);
       reads = λ r v verb was. reads r v was;
       updates = λ u x was. updates u x (there k u x was);
       works = λ n x was. record {
         takes = λ q at is free some. owes_take k c n x was at.at q is some;
-        works = λ sync tickets step at is goes on. owes_batch k c n x was sync tickets step at.at is goes on;
+        works = λ sync tickets step at is goes on. owes_batch k c n x was opens sync tickets step at.at is goes on;
         runs = λ tickets first at is. owes_run k c n x was tickets at.at first is;
         counts = λ tickets ticket item at. owes_count k c n x was tickets ticket item at.at;
       };
@@ -90,11 +90,9 @@ module _ {P : Type 0} (plans : Plans P) (layout : Layout) (slots : ℕ) (laws : 
       }
 
   pub logged_step : (w : BoardView P) (line : Line) → Logged w → Logged ((outcome_of plans w line).world)
-  logged_step w line l = by (change_of plans w line) (by_law plans w (λ line change. OwesNow w (after_all start w.log) l.kept l.callbacks (Ok change)) (owes w (after_all start w.log) l.kept l.callbacks) line)
-    where
-      by : (x : Result (Change P) Refusal) → Each plans w (λ line change. OwesNow w (after_all start w.log) l.kept l.callbacks (Ok change)) line x → Logged ((with_change w x).world)
-      by (Err e) owed = l
-      by (Ok change) owed = logged_change w l change owed
+  logged_step w line l =
+      let now = after_all start w.log in
+      by_change plans w (λ line change. OwesNow w now l.kept l.callbacks (Ok change)) (λ x. Logged ((with_change w x).world)) (owes w now l.kept l.callbacks (awaits_open w.log)) line (λ e. l) (logged_change w l)
 
   pub logged_lines : (w : BoardView P) (lines : List Line) → Logged w → Logged (world_after plans w lines)
   logged_lines w [] l = l
@@ -115,7 +113,6 @@ module _ {P : Type 0} (plans : Plans P) (layout : Layout) (slots : ℕ) (laws : 
           one_place = λ i j s t o g h. absurd (none_there i s o g);
         };
         queues = λ j. subst (λ (q : QueueState). QueueKept q 0 (λ _. [])) (sym (queue j)) (record { is_open = refl; given_low = omega arith; announced = omega arith; at_rest = λ e. refl; ready_free = λ o h. absurd h });
-        awaits_open = λ o t h. absurd h;
         retiring = λ u. subst (λ (x : UpdaterState P). RetireKept (fresh_at {P = P} config seq).objects (fresh_at {P = P} config seq).queues (length (fresh_at {P = P} config seq).updaters) u x.place) (sym (updater_is u)) tt;
         working = λ n. subst (λ (q : QueueState). WorkAt q [] (λ _. []) (λ _. []) (worker_at (fresh_at {P = P} config seq).workers n)) (sym (queue n))
             (subst (λ (x : WorkerState P). WorkAt empty_queue_state [] (λ _. []) (λ _. []) x) (sym (get_replicate new_worker config.workers n)) (refl, refl, omega arith));

@@ -1,11 +1,11 @@
 -- In each world that lines lead to, nothing is missing that a row looks up, and a step that is made leaves another world.
-use Rattle.world.proofs.Cited.{◌≡◌, ◌+◌, ◌<◌, ◌==◌, ℕ, not, Bool, true, false, List, [], ◌∷◌, length, get_or, slice_get, Some, None, Ok, Err, refl, sym, ap, ◌∙◌, subst, arith, cond-true, slice_get-get_or, get_or_from_slice_get, none-some, ObjectId, State, start, after_all, Layout, count_of, fresh, Action, Finished, after_loads, turn_at, Item, object_with, SyncCore, WorkerCore, turned, told_of, Line, Reader, Updater, Worker, UpdaterVerb, WorkerVerb, Fresh, Linked, QueueState, ReaderState, Holder, Publishing, UpdaterPlace, Publishes, Syncs, UpdaterState, WorkerState, new_worker, empty_queue_state, is_open_in, Plans, BoardView, idle, PlaceKept, no_object, within, synced, zero, ◌≢◌, ◌≤◌, ◌%◌, ◌^◌, true≢false, cond, nat_lt, ◌++◌, slice_set, Result, IfOk, lt-ltb, Refusal, FinishesAfter, each_turn, turn_count, Ticket, Tickets, new_core, rest_of, after_take, Change, Config, Answer, BarrierStep, Note, Check, RetireStep, Idle, Retires, Bars, is_within_limits, changed, told, fresh_at, suc, get_or-set_same, Event, length-append, slice_get_within, steps, answer_of, Read, went_on, after_snoc, entered_of-nests, eqb-false, left_of-nests, Turn, action_effect, lock_effect, plan_now, stepped, done_with, grace_row, is_waiting, sync_place, is_blocked, queue_of, retire_on, exact, StepsBy, IsTested, first_in, worker_on, worked, ask_for, is_resting, is_none_left, first_fresh, work_change, GraceStep, one, IsStalled, IsPrompt}
+use Rattle.world.proofs.Cited.{◌≡◌, ◌+◌, ◌<◌, ◌==◌, ℕ, not, Bool, true, false, List, [], ◌∷◌, length, get_or, slice_get, Some, None, Ok, Err, refl, sym, ap, ◌∙◌, subst, arith, cond-true, slice_get-get_or, get_or_from_slice_get, none-some, ObjectId, State, start, after_all, Layout, count_of, fresh, Action, Finished, after_loads, turn_at, Item, object_with, SyncCore, WorkerCore, turned, told_of, Line, Reader, Updater, Worker, UpdaterVerb, WorkerVerb, Fresh, Linked, QueueState, ReaderState, Holder, Publishing, UpdaterPlace, Publishes, Syncs, UpdaterState, WorkerState, empty_queue_state, is_open_in, Plans, BoardView, idle, PlaceKept, no_object, within, synced, zero, ◌≢◌, ◌≤◌, ◌%◌, ◌^◌, true≢false, cond, nat_lt, ◌++◌, slice_set, Result, IfOk, lt-ltb, Refusal, FinishesAfter, each_turn, turn_count, Ticket, Tickets, new_core, rest_of, after_take, Change, Config, Answer, BarrierStep, Note, Check, RetireStep, Idle, Retires, Bars, is_within_limits, changed, told, fresh_at, suc, get_or-set_same, Event, length-append, slice_get_within, steps, answer_of, Read, went_on, after_snoc, entered_of-nests, eqb-false, left_of-nests, Turn, action_effect, lock_effect, plan_now, stepped, done_with, grace_row, is_waiting, sync_place, is_blocked, queue_of, retire_on, exact, StepsBy, IsTested, first_in, worker_on, worked, ask_for, is_resting, is_none_left, first_fresh, work_change, GraceStep, one, IsStalled, IsPrompt}
 use Rattle.world.specs.Lines.{operation_test, synced as synced_row, is_idle, updater_on, updater_verb, updates_on, worker_verb, works_on, of_updater, of_worker, row_of, grace_change, with_change, outcome_of, world_after}
 use Rattle.world.specs.Row.{after, first_failing, Row, made}
 use Rattle.world.proofs.Asking.{is_present}
-use Rattle.world.proofs.Callbacks.{WorkAt, own_queue, its_queue}
+use Rattle.world.proofs.Callbacks.{its_work, own_queue, its_queue}
 use Rattle.world.proofs.Fence.{Laws, Running}
-use Rattle.world.proofs.Rows.{unplanned, Begins, GoesOn, TurnRow, TakesTurn, effect, next, Asking, Blocking, Standing, Locking, Needing, Going, Freeing, Resting, Ending, turn_of, WasAt, WorkedAt, Lack, NoNext, NoEntry, NoQueue, NoPushed, NoReplaced, NoBatch, NoneReady, NotRun, NotCounted, not_false, ReaderRows, UpdaterRows, WorkerRows, Sweep, sweep, Copies, Nests, Unnests, ByPush, ByReplace, BySync, ByTurn, ByHold, ByRetire, ByNote, ByCheck, by_option}
+use Rattle.world.proofs.Rows.{unplanned, Begins, GoesOn, TurnRow, TakesTurn, effect, next, Asking, Blocking, Standing, Locking, Needing, Going, Freeing, Resting, Ending, turn_of, WasAt, Lack, NoNext, NoEntry, NoQueue, NoPushed, NoReplaced, NoBatch, NoneReady, NotRun, NotCounted, not_false, ReaderRows, UpdaterRows, WorkerRows, Sweep, sweep, Copies, Nests, Unnests, ByPush, ByReplace, BySync, ByTurn, ByHold, ByRetire, ByNote, ByCheck, by_option}
 use Rattle.world.proofs.KeptReaders.{there as reader_there}
 use Rattle.world.proofs.Logged.{Logged, logged}
 use Rattle.world.proofs.State.{Asker, Syncing, Working, UpdaterKept, core_work, place_work, work_of, stands_at, works_at}
@@ -44,12 +44,7 @@ module _ {P : Type 0} (plans : Plans P) (layout : Layout) (slots : ℕ) (laws : 
     place_now : (u : ℕ) (x : UpdaterState P) (what : Publishing) → WasAt plans w u x (Publishes what) → PlaceKept w.heads w.objects (length w.updaters) u what
     place_now u x what at = subst (λ (p : UpdaterPlace P). UpdaterKept w.heads w.objects (length w.updaters) u p) (stands_at w.updaters u x at.was at.at) (l.kept.places_kept u)
 
-    -- a worker that pops has a ready item, and rests neither before it runs an item nor before it counts it
-    pub work_now : (k : ℕ) (x : WorkerState P) (core : WorkerCore P Unit) → WorkedAt plans w k x core → WorkAt (get_or w.queues k empty_queue_state) now.asked now.awaited now.asked_sections (record x { core = core })
-    work_now k x core at = subst (λ (c : WorkerCore P Unit). WorkAt (get_or w.queues k empty_queue_state) now.asked now.awaited now.asked_sections (record x { core = c })) at.at
-        (subst (λ (y : WorkerState P). WorkAt (get_or w.queues k empty_queue_state) now.asked now.awaited now.asked_sections y) (get_or_from_slice_get w.workers k x new_worker at.was) (l.callbacks.working k))
-
-    -- nothing is missing
+    -- nothing is missing: a worker that pops has a ready item, and rests neither before it runs an item nor before it counts it
     pub nothing_lacks : Lack plans w → ⊥
     nothing_lacks (NoNext r v o was from none) = object_there o (within w.objects o ((reader_there l.kept r v was).mine.holds o from).2) none
     nothing_lacks (NoEntry r v copied e was has memb full) = let same : Ok (fresh w.layout (copied == 1)) ≡ Err e = sym (cond-true (count_of w.layout v.word == 0) _ _ (closed r v copied was has memb)) ∙ full in cc
@@ -57,16 +52,16 @@ module _ {P : Type 0} (plans : Plans P) (layout : Layout) (slots : ℕ) (laws : 
     nothing_lacks (NoPushed u x new at none) = object_there new (place_now u x (Publishing.Push new) at).0.1 none
     nothing_lacks (NoReplaced u x old new at none) = object_there old (within w.objects old (λ f. let linked = (place_now u x (Publishing.Replace old new) at).2 in let e : Linked ≡ Fresh = sym linked ∙ f in cc)) none
     nothing_lacks (NoBatch k x was none) = queue_there k (its_queue k x l.callbacks.sizes was) none
-    nothing_lacks (NoneReady k x tickets at none) = by mine.items.ready (work_now k x (WorkerCore.Pops tickets) at).1 (sym (ap first_in (slice_get-get_or w.queues k empty_queue_state (its_queue k x l.callbacks.sizes at.was))) ∙ none)
+    nothing_lacks (NoneReady k x tickets at none) = by mine.items.ready (its_work w now l.callbacks k x at.was at.at).1 (sym (ap first_in (slice_get-get_or w.queues k empty_queue_state (its_queue k x l.callbacks.sizes at.was))) ∙ none)
       where
         mine : QueueState
         mine = get_or w.queues k empty_queue_state
 
         by : (ready : List (Item Unit)) → tickets.left ≡ length ready → object_with (mine.items.gone + 1) ready ≡ None → ⊥
-        by [] all e = let some = (work_now k x (WorkerCore.Pops tickets) at).2 in omega (arith, all, some)
+        by [] all e = let some = (its_work w now l.callbacks k x at.was at.at).2 in omega (arith, all, some)
         by (item ∷ ready) all e = let clash = sym e in cc
-    nothing_lacks (NotRun k x tickets ticket item at) = work_now k x (WorkerCore.Runs tickets ticket item) at
-    nothing_lacks (NotCounted k x tickets ticket at) = work_now k x (WorkerCore.Counts tickets ticket) at
+    nothing_lacks (NotRun k x tickets ticket item at) = its_work w now l.callbacks k x at.was at.at
+    nothing_lacks (NotCounted k x tickets ticket at) = its_work w now l.callbacks k x at.was at.at
 
     -- ---- scans
 
@@ -146,9 +141,6 @@ due_in place = Note 0
 after_noting : (q : ℕ) (more : Bool) → cond more (Note (q + 1)) (Check 0) ≢ Note q
 after_noting q true e = let n : q + 1 ≡ q = cc in omega (arith, n)
 after_noting q false e = cc
-
-after_checking : (q : ℕ) → Check (q + 1) ≢ Check q
-after_checking q e = let n : q + 1 ≡ q = cc in omega (arith, n)
 
 -- a worker that takes a batch rests no more
 abbrev begun : {P : Type 0} → Tickets → Bool → WorkerCore P Unit
@@ -287,13 +279,13 @@ module _ {P : Type 0} (plans : Plans P) (layout : Layout) (slots : ℕ) (laws : 
     moves_update _ _ (ByHold o q at may is free) = (tt, λ same. let e : Retires o RetireStep.Mark ≡ Idle = stays _ _ same refl ∙ at.at in cc)
     moves_update _ _ (ByRetire o step at) = moves_retire o step at.at
     moves_update _ _ (ByNote b q at is) = (tt, λ same. after_noting q (nat_lt (q + 1) (length w.queues)) (ap due_in (stays _ _ same refl ∙ at.at) ∙ is))
-    moves_update _ _ (ByCheck b q at is up more) = (tt, λ same. after_checking q (ap due_in (stays _ _ same refl ∙ at.at) ∙ is))
+    moves_update _ _ (ByCheck b q at is up more) = (tt, λ same. let e : Check (q + 1) ≡ Check q = ap due_in (stays _ _ same refl ∙ at.at) ∙ is in let n : q + 1 ≡ q = cc in omega (arith, n))
     moves_update _ _ _ = (tt, λ same. told_more _ _ _ same refl)
 
   moves_work : (k : ℕ) (x : WorkerState P) → slice_get w.workers k ≡ Some x → WorkerRows plans w k x (λ v. Moved)
   moves_work k x was = record {
     takes = λ q at is free some.
-        let none = rw (get_or_from_slice_get w.queues k q empty_queue_state is) at (work_now plans layout slots laws w l k x WorkerCore.Idle at) in
+        let none = rw (get_or_from_slice_get w.queues k q empty_queue_state is) at (its_work w (after_all start w.log) l.callbacks k x at.was at.at) in
         let left = some_left q.items.fresh (ap is_none_left (sym (all_fresh q.items none.0 none.1)) ∙ some) in
         (tt, λ same. begins _ _ (lt-ltb 0 (length q.items.fresh) left) (subst (λ (c : WorkerCore P Unit). after_take c (first_fresh q.items) (length q.items.fresh) ≡ c) at.at (stays _ _ same refl)));
     works = λ sync tickets step at is goes on. moves_turn (work_change k (ask_for w x.ask sync) tickets) (λ step. refl) (Working k) x.ask (Holder.Worker k) (ask_for w x.ask sync) sync

@@ -2,7 +2,7 @@
 use Rattle.world.proofs.Cited.{◌≡◌, ◌≢◌, ℕ, ◌+◌, ◌==◌, cond, Bool, List, [], ◌∷◌, ◌++◌, slice_get, slice_set, Option, Some, None, Ok, refl, sym, ap, ◌∙◌, subst, option_or, eq-eqb, ne_eqb, cond-true, cond-false, get_or_from_slice_get, slice_get_within, Event, ObjectId, Layout, announced, Line, ReaderState, ReaderStep, Holder, RetireStep, Retires, UpdaterState, Change, Read, Begin, Publish, Grace, Hold, Bar, section_of, new_reader, quietly, telling, with_word, opened, closed, Plans, BoardView, changed, told, true, false, Result, Err, Refusal, Answer, Events, Quiet, Reader, Updater, Worker, UpdaterVerb, Started, UpdaterPlace, Idle, answer_of, idle, Config, fresh_at, world_after, change_of, with_change, outcome_of, retire_on, queue_of, ask_for, events_of}
 use Rattle.std.specs.List.{AllByRecursion as Every}
 use Rattle.world.specs.Notes.{got_after, got_last, AreFromLast, cursor_of, Reply, note_of, noted_by, noted_after, noted_last, IsAnswerTo, IsOfNoted, IsPolled, ArePolled, started_by, replies_to, AreNoted}
-use Rattle.world.proofs.Rows.{tells, Copies, Nests, Unnests, Unlocks, Leaves, Enters, GoesOnline, Announces, Firsts, Nexts, Touches, ReaderRows, IsPublishing, IsWaiting, IsUpdate, any_updates, WasAt, Law, over_lines, stalled_silent, ByStart, ByPoll, ByRetire, any_works, UpdaterRows, Each, by_law}
+use Rattle.world.proofs.Rows.{tells, Copies, Nests, Unnests, Unlocks, Leaves, Enters, GoesOnline, Announces, Firsts, Nexts, Touches, ReaderRows, IsPublishing, IsWaiting, IsUpdate, any_updates, WasAt, Law, over_lines, stalled_silent, ByStart, ByPoll, ByRetire, any_works, UpdaterRows, by_change}
 use Rattle.world.proofs.State.{at_each, at_updaters, told_by, log_after, updater_at}
 use Rattle.world.proofs.Logged.{get_replicate}
 
@@ -199,11 +199,7 @@ module _ {P : Type 0} (plans : Plans P) (w : BoardView P) where
   NotedAfter line y = (s : ℕ) → NotedBy line ((with_change w y).answer) s (started_by w s) (started_by ((with_change w y).world) s)
 
   noted_step : (line : Line) → NotedAfter line (change_of plans w line)
-  noted_step line = by (change_of plans w line) (by_law plans w NotedOver notes line)
-    where
-      by : (y : Result (Change P) Refusal) → Each plans w NotedOver line y → NotedAfter line y
-      by (Ok change) over s = over s
-      by (Err e) over s = unmoved line (Err e) refl s (started_by w s)
+  noted_step line = by_change plans w NotedOver (NotedAfter line) notes line (λ e s. unmoved line (Err e) refl s (started_by w s)) (λ change over. over)
 
 -- ---- all lines
 

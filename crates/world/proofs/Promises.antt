@@ -1,7 +1,7 @@
 -- What the contracts of a world say of its steps, and of the logs of worlds that lines led to.
-use Rattle.world.proofs.Cited.{◌≡◌, List, [], ◌∷◌, ◌++◌, Result, Ok, Err, refl, sym, ap, ◌∙◌, subst, Refusal, Answer, Line, Plans, BoardView, fresh_at, ℕ, append_assoc, Event, MembPlan, QsbrPlan, Config, Flavour, Memb, Qsbr, Change, Begin, Hold, Stay, told, answer_of, changed, ◌%◌, ◌^◌, ◌≤◌, ◌==◌, ◌&&◌, true, nat_le, and_parts, eqb-true, leb-true, is_within_limits, IfOk, IsRun, IsSafeLog, Bool, Layout, Updater, Worker, ReaderState, true≢false, inl, inr, Option, Some, None, arith, same_Some, QueueState, Grows, ⊎_elim, cond, false, nat_lt, slice_get, IfErr, items_of, WorkerState, outcome_of, world_after, change_of, with_change, Outcome, Meets, IsReached, MeetsDrain, drain_lines, items_in, items_to_drain, is_busy, steps_with, steps_in, first_failing, Row, line_tests, StepsBy, IsTested, MeetsTests, exact, tests_of, IsStepError, is_none_left}
+use Rattle.world.proofs.Cited.{◌≡◌, List, [], ◌∷◌, ◌++◌, Result, Ok, Err, refl, sym, ap, ◌∙◌, subst, Refusal, Answer, Line, Plans, BoardView, fresh_at, ℕ, append_assoc, Event, MembPlan, QsbrPlan, Config, Flavour, Memb, Qsbr, Change, Begin, Hold, Stay, told, answer_of, changed, ◌%◌, ◌^◌, ◌≤◌, ◌==◌, ◌&&◌, true, nat_le, and_parts, eqb-true, leb-true, is_within_limits, IfOk, IsRun, IsSafeLog, Bool, Layout, Updater, Worker, ReaderState, true≢false, inl, inr, Option, Some, None, arith, same_Some, QueueState, Grows, ⊎_elim, cond, false, nat_lt, slice_get, IfErr, items_of, WorkerState, outcome_of, world_after, with_change, Outcome, Meets, IsReached, MeetsDrain, drain_lines, items_in, items_to_drain, is_busy, steps_with, steps_in, first_failing, Row, line_tests, StepsBy, IsTested, MeetsTests, exact, tests_of, IsStepError, is_none_left}
 use Rattle.std.proofs.lemmas.List.{append-nil}
-use Rattle.world.proofs.Rows.{stalled_silent, IsUpdate, any_retires, any_updates, any_works, Each, Law, by_law, Copies, ReaderRows, Fails, whichever, Sweep, sweep}
+use Rattle.world.proofs.Rows.{stalled_silent, IsUpdate, any_retires, any_updates, any_works, Law, by_change, Copies, ReaderRows, Fails, whichever, Sweep, sweep}
 use Rattle.world.specs.Steps.{WorldView, OfMemb, OfQsbr, memb_plans, qsbr_plans, step_of, log_of, fresh_in, world_after_lines, events_of, answered_events, is_supported_at, IsReachedWorld, fresh_world_at, IsOfReader, IsPrompt, IsMade}
 use Rattle.std.specs.Prelude.{length}
 
@@ -51,12 +51,8 @@ module _ {P : Type 0} (plans : Plans P) (w : BoardView P) where
   log_change (Stay answer) s = sym (ap (λ (es : List Event). w.log ++ es) s ∙ append-nil w.log)
   log_change _ s = refl
 
-  log_after : (line : Line) (x : Result (Change P) Refusal) → Each plans w (λ l. IsSilent) line x → (with_change w x).world.log ≡ w.log ++ events_of (with_change w x).answer
-  log_after line (Ok change) s = log_change change s
-  log_after line (Err e) s = sym (append-nil w.log)
-
   pub log_told : (line : Line) → (outcome_of plans w line).world.log ≡ w.log ++ events_of (outcome_of plans w line).answer
-  log_told line = log_after line (change_of plans w line) (by_law plans w (λ l. IsSilent) silent line)
+  log_told line = by_change plans w (λ l. IsSilent) (λ x. (with_change w x).world.log ≡ w.log ++ events_of (with_change w x).answer) silent line (λ e. sym (append-nil w.log)) log_change
 
 -- as the contract of a step says it
 pub log_meets : {P : Type 0} (plans : Plans P) (old new : BoardView P) (line : Line) (r : Result Answer Refusal) → Meets (outcome_of plans old line) old new r → new.log ≡ old.log ++ events_of r
@@ -87,14 +83,14 @@ qsbr_lines w [] = refl
 qsbr_lines w (line ∷ lines) = qsbr_lines ((outcome_of qsbr_plans w line).world) lines
 
 -- what is so of the boards of both flavours, is so of a world of either
-pub in_flavour : (C : WorldView → Type 0) (flavour : Flavour) (config : Config) (seq : ℕ) (lines : List Line) → C (OfMemb (world_after memb_plans (fresh_at config seq) lines)) → C (OfQsbr (world_after qsbr_plans (fresh_at config seq) lines)) → C (world_after_lines (fresh_in flavour config seq) lines)
+in_flavour : (C : WorldView → Type 0) (flavour : Flavour) (config : Config) (seq : ℕ) (lines : List Line) → C (OfMemb (world_after memb_plans (fresh_at config seq) lines)) → C (OfQsbr (world_after qsbr_plans (fresh_at config seq) lines)) → C (world_after_lines (fresh_in flavour config seq) lines)
 in_flavour C Memb config seq lines memb qsbr = subst C (sym (memb_lines (fresh_at config seq) lines)) memb
 in_flavour C Qsbr config seq lines memb qsbr = subst C (sym (qsbr_lines (fresh_at config seq) lines)) qsbr
 
 -- ---- what makes a world
 
 -- its limits, and an even first number up to 2^62
-pub start_of : (config : Config) (seq : ℕ) → is_supported_at config seq ≡ true → (is_within_limits config ≡ true) × (seq % 2 ≡ 0) × (seq ≤ 2 ^ 62)
+start_of : (config : Config) (seq : ℕ) → is_supported_at config seq ≡ true → (is_within_limits config ≡ true) × (seq % 2 ≡ 0) × (seq ≤ 2 ^ 62)
 start_of config seq e =
     let limits = and_parts (is_within_limits config) ((seq % 2 == 0) && nat_le seq (2 ^ 62)) e in
     let numbers = and_parts (seq % 2 == 0) (nat_le seq (2 ^ 62)) limits.1 in
@@ -102,13 +98,16 @@ start_of config seq e =
 
 -- ---- the promises of the logs of worlds that lines led to
 
+-- what is so of the boards of both flavours that lines lead to, is so of a world that they lead to
+pub in_worlds : (C : WorldView → Type 0) (config : Config) (seq : ℕ) (lines : List Line) → is_supported_at config seq ≡ true → (is_within_limits config ≡ true → seq % 2 ≡ 0 → seq ≤ 2 ^ 62 → C (OfMemb (world_after memb_plans (fresh_at config seq) lines))) →
+    (is_within_limits config ≡ true → seq % 2 ≡ 0 → seq ≤ 2 ^ 62 → C (OfQsbr (world_after qsbr_plans (fresh_at config seq) lines))) → C (world_after_lines (fresh_world_at config seq) lines)
+in_worlds C config seq lines good memb qsbr = let begins = start_of config seq good in in_flavour C config.flavour config seq lines (memb begins.0 begins.1 begins.2) (qsbr begins.0 begins.1 begins.2)
+
 -- the world after lines is reached
 pub reached_by : (config : Config) (seq : ℕ) (lines : List Line) → is_supported_at config seq ≡ true → IsReachedWorld (world_after_lines (fresh_world_at config seq) lines)
-reached_by config seq lines good =
-    let begins = start_of config seq good in
-    in_flavour IsReachedWorld config.flavour config seq lines
-    (record { config = config; limits = begins.0; seq = seq; even = begins.1; low = begins.2; lines = lines; leads = refl })
-    (record { config = config; limits = begins.0; seq = seq; even = begins.1; low = begins.2; lines = lines; leads = refl })
+reached_by config seq lines good = in_worlds IsReachedWorld config seq lines good
+    (λ limits even low. record { config = config; limits = limits; seq = seq; even = even; low = low; lines = lines; leads = refl })
+    (λ limits even low. record { config = config; limits = limits; seq = seq; even = even; low = low; lines = lines; leads = refl })
 
 -- the log of a board that lines led to is a run, where that of each world is
 abbrev EachIsRun : {P : Type 0} → Plans P → Type 0
@@ -121,10 +120,6 @@ pub reached_run : EachIsRun memb_plans → EachIsRun qsbr_plans → (w : WorldVi
 reached_run memb qsbr (OfMemb w) r = run_of memb_plans memb w r
 reached_run memb qsbr (OfQsbr w) r = run_of qsbr_plans qsbr w r
 
--- a fresh world's log is empty
-pub fresh_log : (config : Config) (seq : ℕ) → log_of (fresh_world_at config seq) ≡ []
-fresh_log config seq = elim config.flavour as (λ flavour. log_of (fresh_in flavour config seq) ≡ []) [ Memb ↦ refl | Qsbr ↦ refl ]
-
 -- a drain's log, as its contract says it
 pub drain_log : (k : ℕ) (old new : WorldView) (r : Result ℕ Refusal) → MeetsDrain k old new r → IfOk r (λ steps. log_of new ≡ log_of old ++ answered_events old (drain_lines k steps))
 drain_log k old new (Ok steps) m = ap log_of m.1 ∙ lines_told old (drain_lines k steps)
@@ -132,7 +127,7 @@ drain_log k old new (Err e) m = tt
 
 -- what makes a fresh world
 pub new_log : (config : Config) (seq : ℕ) (r : Result WorldView Refusal) → IfOk r (λ w. w ≡ fresh_world_at config seq) → IfOk r (λ w. log_of w ≡ [])
-new_log config seq (Ok w) is = ap log_of is ∙ fresh_log config seq
+new_log config seq (Ok w) is = ap log_of is ∙ elim config.flavour as (λ flavour. log_of (fresh_in flavour config seq) ≡ []) [ Memb ↦ refl | Qsbr ↦ refl ]
 new_log config seq (Err e) is = tt
 
 pub new_safe : (config : Config) (seq : ℕ) (r : Result WorldView Refusal) → IsSafeLog (log_of (fresh_world_at config seq)) → IfOk r (λ w. w ≡ fresh_world_at config seq) → IfOk r (λ w. IsSafeLog (log_of w))
@@ -158,12 +153,8 @@ module _ {P : Type 0} (plans : Plans P) (w : BoardView P) where
     works = λ k x was. any_works plans w k x (λ v. Prompt (Worker k v)) (λ v y grace act mark answer of. absurd of);
   }
 
-  prompt_answer : (line : Line) (x : Result (Change P) Refusal) → Each plans w Prompt line x → IsOfReader line → IfOk (with_change w x).answer IsPrompt
-  prompt_answer line (Ok change) is of = is of
-  prompt_answer line (Err e) is of = tt
-
 pub prompt_meets : {P : Type 0} (plans : Plans P) (old new : BoardView P) (line : Line) (result : Result Answer Refusal) → Meets (outcome_of plans old line) old new result → IsOfReader line → IfOk result IsPrompt
-prompt_meets plans old new line (Ok a) meets h = subst (λ (r : Result Answer Refusal). IfOk r IsPrompt) meets.0 (prompt_answer plans old line (change_of plans old line) (by_law plans old (Prompt plans old) (prompt plans old) line) h)
+prompt_meets plans old new line (Ok a) meets h = subst (λ (r : Result Answer Refusal). IfOk r IsPrompt) meets.0 (by_change plans old (Prompt plans old) (λ x. IfOk (with_change old x).answer IsPrompt) (prompt plans old) line (λ e. tt) (λ change is. is h))
 prompt_meets plans old new line (Err e) meets h = tt
 
 -- ---- from the tests of a line to what a step promises

@@ -1,7 +1,7 @@
 -- The numbers of a kept world are small enough for its next step, and a line asks no more of a queue than it has.
-use Rattle.world.proofs.Cited.{◌≡◌, ◌^◌, ◌<◌, ℕ, true≢false, false, length, slice_get, Some, Ok, refl, ap, ◌∙◌, subst, arith, get_or_from_slice_get, ObjectId, State, SyncCore, Tickets, WorkerCore, Line, QueueAct, QueueState, RetireStep, UpdaterPlace, Retires, UpdaterState, WorkerState, Change, new_worker, empty_queue_state, MayAct, MayActAt, Plans, BoardView, queue_at, MayMake, ◌+◌, ◌-◌, ◌%◌, ◌≤◌, Bool, true, List, [], ◌∷◌, sym, slice_get_within, slice_get-get_or, Layout, Item, Ticket, given_of, object_with, step_of, ReaderState, Barrier, Note, Check, Bars, new_reader, IsRun, Config, is_within_limits, fresh_at, Holder, GraceStep, action_effect, is_blocked, change_of, world_after, queue_of, retire_on, ask_for, work_change, first_in, CanStart, LoadsNoGroup, IsAtQueue, IsInRange, IsReached}
-use Rattle.world.proofs.Rows.{by_option, TurnRow, Asking, Blocking, Finding, Ending, turn_of, WasAt, WorkedAt, WorkerRows, IsUpdate, any_updates, Each, Law, by_law}
-use Rattle.world.proofs.Callbacks.{Callbacks, RetireKept, BatchKept, WorkKept, IsAt, BarKept, WorkAt}
+use Rattle.world.proofs.Cited.{◌≡◌, ◌^◌, ◌<◌, ℕ, true≢false, false, length, slice_get, Some, Ok, refl, ap, ◌∙◌, subst, arith, get_or_from_slice_get, ObjectId, State, SyncCore, Tickets, WorkerCore, Line, QueueAct, QueueState, RetireStep, UpdaterPlace, Retires, UpdaterState, WorkerState, Change, empty_queue_state, MayAct, MayActAt, Plans, BoardView, queue_at, MayMake, ◌+◌, ◌-◌, ◌%◌, ◌≤◌, Bool, true, List, [], ◌∷◌, sym, slice_get_within, slice_get-get_or, Layout, Item, Ticket, given_of, object_with, step_of, ReaderState, Barrier, Note, Check, Bars, new_reader, IsRun, Config, is_within_limits, fresh_at, Holder, GraceStep, action_effect, is_blocked, change_of, world_after, queue_of, retire_on, ask_for, work_change, first_in, CanStart, LoadsNoGroup, IsAtQueue, IsInRange, IsReached}
+use Rattle.world.proofs.Rows.{by_option, TurnRow, Asking, Blocking, Finding, Ending, turn_of, WasAt, WorkerRows, IsUpdate, any_updates, Each, Law, by_law}
+use Rattle.world.proofs.Callbacks.{its_work, Callbacks, RetireKept, BatchKept, IsAt, BarKept}
 use Rattle.call_rcu_worker.specs.Worker.{next_of}
 use Rattle.world.proofs.Fence.{Work, Starts, Pending, Holds, Laws, even_at, runs_no_group}
 use Rattle.world.proofs.State.{Asker, Syncing, Working, core_work, place_work, work_of, Kept, stands_at, works_at}
@@ -21,9 +21,6 @@ module _ {P : Type 0} (plans : Plans P) (w : BoardView P) (now : State) (k : Cal
     abbrev mine : QueueState
     mine = queue_at w.queues n
 
-    abbrev WorksAt : WorkerCore P Unit → Type 0
-    WorksAt place = WorkKept mine.items.ready mine.items.waiting mine.items.cookie mine.items.gone mine.finished now.asked now.awaited now.asked_sections x.ask place
-
     -- what the queue is told of a grace period
     abbrev MayTell : ℕ → Tickets → SyncCore P → GraceStep P → Type 0
     MayTell ask tickets sync step = BatchKept mine.items.ready mine.items.waiting mine.items.cookie now.asked now.awaited now.asked_sections x.ask tickets.left sync → is_blocked step.answer ≡ false → MayMake w (work_change n ask tickets step)
@@ -35,16 +32,12 @@ module _ {P : Type 0} (plans : Plans P) (w : BoardView P) (now : State) (k : Cal
     makes_row ask tickets _ _ (Ending from c p at done) h made = may_act (QueueAct.Advance (action_effect w (plans.action p)).grace.seq) n tt
     makes_row ask tickets _ _ _ h made = may_act QueueAct.Leave n tt
 
-    its_work : {core : WorkerCore P Unit} → WorkedAt plans w n x core → WorksAt core
-    its_work at = subst (λ (p : WorkerCore P Unit). WorksAt p) at.at
-        (subst (λ (y : WorkerState P). WorkKept mine.items.ready mine.items.waiting mine.items.cookie mine.items.gone mine.finished now.asked now.awaited now.asked_sections y.ask y.core) (get_or_from_slice_get w.workers n x new_worker at.was) (k.working n))
-
     works : WorkerRows plans w n x (λ v. MayMake w)
     works = record {
-      takes = λ q at is free some. let rests = its_work at in may_act QueueAct.Seal n (rests.0, rests.1);
-      works = λ sync tickets step at is goes on. makes_row (ask_for w x.ask sync) tickets sync step (turn_of plans w (Holder.Worker n) (ask_for w x.ask sync) sync step is) (its_work at).0 goes;
+      takes = λ q at is free some. let rests = its_work w now k n x at.was at.at in may_act QueueAct.Seal n (rests.0, rests.1);
+      works = λ sync tickets step at is goes on. makes_row (ask_for w x.ask sync) tickets sync step (turn_of plans w (Holder.Worker n) (ask_for w x.ask sync) sync step is) (its_work w now k n x at.was at.at).0 goes;
       runs = λ tickets first at is. may_act QueueAct.Pop n tt;
-      counts = λ tickets ticket item at. may_act QueueAct.Finish n (let low = (k.queues n).given_low in let gone = (its_work at).2 in omega (arith, low, gone, small));
+      counts = λ tickets ticket item at. may_act QueueAct.Finish n (let low = (k.queues n).given_low in let gone = (its_work w now k n x at.was at.at).2 in omega (arith, low, gone, small));
     }
 
   retiring : (u : ℕ) (x : UpdaterState P) (o : ObjectId) (step : RetireStep) → WasAt plans w u x (Retires o step) → MayMake w (retire_on w u x o step)
@@ -106,8 +99,7 @@ module _ {P : Type 0} {plans : Plans P} {layout : Layout} {slots : ℕ} {laws : 
       mine = queue_at w.queues n
 
       batch : (mine.items.waiting ≡ []) × (tickets.left ≡ length mine.items.ready) × (1 ≤ tickets.left) × (mine.finished ≡ mine.items.gone) × (tickets.last.0 ≡ mine.items.gone + tickets.left)
-      batch = subst (λ (p : WorkerCore P Unit). WorkKept mine.items.ready mine.items.waiting mine.items.cookie mine.items.gone mine.finished now.asked now.awaited now.asked_sections x.ask p) pops
-          (subst (λ (y : WorkerState P). WorkAt mine now.asked now.awaited now.asked_sections y) (get_or_from_slice_get w.workers n x new_worker is) (callbacks.working n))
+      batch = its_work w now callbacks n x is pops
 
       next_is : (let t : Ticket = record { 0 = mine.items.gone + 1 } in t) ≡ next_of tickets
       next_is = let some = batch.2 in let last = batch.4 in let same : mine.items.gone + 1 ≡ tickets.last.0 - (tickets.left - 1) = omega (arith, some, last) in ap (λ (m : ℕ). let t : Ticket = record { 0 = m } in t) same

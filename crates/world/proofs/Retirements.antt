@@ -1,5 +1,5 @@
 -- What the steps of `retire` and `barrier` keep, and that what they tell may come.
-use Rattle.world.proofs.Cited.{◌≡◌, ◌≢◌, ◌⊎◌, ⊎_elim, ℕ, true≢false, inl, inr, ◌+◌, ◌%◌, ◌<◌, ◌≤◌, ◌&&◌, is_some, true, false, List, [], ◌∷◌, ◌++◌, length, slice_get, slice_set, Option, Some, None, Result, Ok, refl, sym, ap, ◌∙◌, subst, arith, length-append, length-set, eqb-true, and_parts, mod_below, get_or_from_slice_get, ObjectId, SectionId, Refusal, at_object, State, In, has_object_in, in_objects, at_object_same, at_object_other, decide, none_some, some_is, Layout, items_of, given_of, Life, Stage, Mark, ObjectState, QueueState, RetireStep, Idle, Retires, UpdaterState, WorkerState, Change, Hold, marked_life, empty_queue_state, item_of, held_by, acted, changed_at, acted_at, held_at, Plans, BoardView, no_object, stage_of, chain_of, within, life_of, life_within, life_marked, life_else, chain_marked, Items, Has, Stands, InQueue, queue_at, has_left, has_right, has_stands, stands_left, stands_last, stands_more, changed_here, changed_length, items_pushed, nat_le, nat_lt, ltb, not, get_or, replicate, get_or-set_other, get_or-set_same, leb-true, ltb-true, ltb-false, cond_both, has_object, at_number, not_run, has_number_in, in_numbers, empty_from, at_number_same, at_number_other, filter_has, WorkerCore, Quiet, Barrier, BarrierStep, Note, Check, UpdaterPlace, Bars, Bar, decide_number, stands_above, stands_within, Event, QueueAct, writes, queue_of, at_place, is_cut, is_kept, may_retire, retire_on, queued_in, finished_in, after_note, noted_at, barrier_row, one}
+use Rattle.world.proofs.Cited.{◌≡◌, ◌≢◌, ◌⊎◌, ⊎_elim, ℕ, true≢false, inl, inr, ◌+◌, ◌%◌, ◌<◌, ◌≤◌, ◌&&◌, is_some, true, false, List, [], ◌∷◌, ◌++◌, length, slice_get, slice_set, Option, Some, None, Result, Ok, refl, sym, ap, ◌∙◌, subst, arith, length-append, length-set, eqb-true, and_parts, mod_below, get_or_from_slice_get, ObjectId, SectionId, Refusal, at_object, State, In, has_object_in, in_objects, at_object_other, decide, none_some, some_is, Layout, items_of, given_of, Life, Stage, Mark, ObjectState, QueueState, RetireStep, Idle, Retires, UpdaterState, WorkerState, Change, Hold, marked_life, empty_queue_state, item_of, held_by, acted, changed_at, acted_at, held_at, Plans, BoardView, no_object, stage_of, chain_of, within, life_of, life_within, life_marked, life_else, chain_marked, Items, Has, Stands, InQueue, queue_at, has_left, has_right, has_stands, stands_left, stands_last, stands_more, changed_here, changed_length, items_pushed, nat_le, nat_lt, ltb, not, get_or, replicate, get_or-set_other, get_or-set_same, leb-true, ltb-true, ltb-false, cond_both, has_object, at_number, not_run, has_number_in, in_numbers, empty_from, at_number_same, at_number_other, filter_has, WorkerCore, Quiet, Barrier, BarrierStep, Note, Check, UpdaterPlace, Bars, Bar, decide_number, stands_above, stands_within, Event, QueueAct, writes, queue_of, at_place, is_cut, is_kept, may_retire, retire_on, queued_in, finished_in, after_note, noted_at, barrier_row, one}
 use Rattle.world.proofs.Fence.{Laws}
 use Rattle.world.proofs.Rows.{none_is}
 use Rattle.world.proofs.State.{place_work, updater_at, worker_at, Kept}
@@ -164,11 +164,11 @@ module _ {P : Type 0} {plans : Plans P} {layout : Layout} {slots : ℕ} {laws : 
 
     -- a step that changes the queue of the updater, and stores a header or none
     queue_step : {logged : ℕ} (x' : UpdaterState P) (mark : Option Mark) (retired queued : List ObjectId) (awaited : ObjectId → List SectionId) → length w.log ≤ logged → ItemsKept (marked_life w.objects mark) after retired queued now.reclaimed →
-        ((i : ℕ) → QueueKept (queue_at after i) logged awaited) → ((o : ObjectId) (s : SectionId) → In (awaited o) s → In now.sections s) →
+        ((i : ℕ) → QueueKept (queue_at after i) logged awaited) →
         RetireKept (marked_life w.objects mark) after count u x'.place → ((v : ℕ) → v ≢ u → RetireKept (marked_life w.objects mark) after count v (updater_at w.updaters v).place) →
         ((i : ℕ) → WorkAt (queue_at after i) now.asked awaited now.asked_sections (worker_at w.workers i)) → BarsNone x'.place → ((i s : ℕ) (o : ObjectId) → InQueue (queue_at qs i) s o → InQueue (queue_at after i) s o) →
         CallbacksKept (marked_life w.objects mark) after (slice_set w.updaters u x') w.workers w.barriers logged (record now { retired = retired; queued = queued; awaited = awaited })
-    queue_step x' mark retired queued awaited more items queues opens mine others works none stay = assumption (
+    queue_step x' mark retired queued awaited more items queues mine others works none stay = assumption (
       sizes_over (changed_length f qs j) refl k.sizes,
       updaters_set (marked_life w.objects mark) after w.updaters now.noted now.cleared now.noted_objects u x' t.inside mine others (bars_kept after now.noted now.cleared now.noted_objects x'.place none)
           (λ v apart. bar_over qs after now.noted now.cleared now.noted_objects now.noted_objects (updater_at w.updaters v).place (changed_length f qs j) (λ b o h. (h, λ i s. stay i s o)) (k.barring v))
@@ -182,7 +182,7 @@ module _ {P : Type 0} {plans : Plans P} {layout : Layout} {slots : ℕ} {laws : 
         CallbacksKept w.objects after (slice_set w.updaters u x') w.workers w.barriers (length w.log) now
     lock_step x' gone items mine others place none works =
         queue_step x' None now.retired now.queued now.awaited (omega arith) (items_stay qs j f inside gone items k.items)
-        (at_queues (λ i r. QueueKept r (length w.log) now.awaited) f qs j inside mine (λ i apart. k.queues i)) k.awaits_open
+        (at_queues (λ i r. QueueKept r (length w.log) now.awaited) f qs j inside mine (λ i apart. k.queues i))
         place (λ v apart. retire_apart qs j f inside w.objects count v (updater_at w.updaters v).place (others v apart) (k.retiring v))
         (at_queues (λ i r. WorkAt r now.asked now.awaited now.asked_sections (worker_at w.workers i)) f qs j inside (works j (worker_at w.workers j) (k.working j)) (λ i apart. k.working i)) none (stays qs j f inside gone items)
 
@@ -238,7 +238,7 @@ module _ {P : Type 0} {plans : Plans P} {layout : Layout} {slots : ℕ} {laws : 
           assumption (kept_updater kept u x x' (after f) (Some m) w.barriers (w.log ++ Event.Retire o ∷ []) t (longer w.log (Event.Retire o ∷ [])) (λ os. tt) refl (ap place_work was) refl),
           queue_step f x' (Some m) (o ∷ now.retired) now.queued awaited' (longer w.log (Event.Retire o ∷ []))
               (items_retired w.objects (after f) now.retired now.queued now.reclaimed o within_o g.1.1 (items_stay qs j f inside refl refl k.items))
-              (at_queues (λ i r. QueueKept r (length (w.log ++ Event.Retire o ∷ [])) awaited') f qs j inside (queue j) (λ i apart. queue i)) (λ p s h. opens p s (decide p o) h)
+              (at_queues (λ i r. QueueKept r (length (w.log ++ Event.Retire o ∷ [])) awaited') f qs j inside (queue j) (λ i apart. queue i))
               (retire_here qs j f inside (marked_life w.objects (Some m)) count u o RetireStep.Count refl (g.0, (life_marked w.objects m within_o, ap (λ c. c % count) (chain_marked w.objects (Some m) o) ∙ g.1.2, g.1.3, g.1.4)))
               (λ v apart. retire_marked w.objects m (after f) count v (updater_at w.updaters v).place (other_object g.1.2 v apart) (retire_apart qs j f inside w.objects count v (updater_at w.updaters v).place (other_holder g.0 v apart) (k.retiring v)))
               (at_queues (λ i r. WorkAt r now.asked awaited' now.asked_sections (worker_at w.workers i)) f qs j inside (work j) (λ i apart. work i)) tt (stays qs j f inside refl refl),
@@ -253,10 +253,6 @@ module _ {P : Type 0} {plans : Plans P} {layout : Layout} {slots : ℕ} {laws : 
 
         same_awaited : (p : ObjectId) → p ≢ o → awaited' p ≡ now.awaited p
         same_awaited p n = at_object_other o p now.sections now.awaited n
-
-        opens : (p : ObjectId) (s : SectionId) → (p ≡ o) ⊎ (p ≢ o) → In (awaited' p) s → In now.sections s
-        opens p s (inl e) h = subst (λ (l : List SectionId). In l s) (ap awaited' e ∙ at_object_same o now.sections now.awaited) h
-        opens p s (inr n) h = k.awaits_open p s (subst (λ (l : List SectionId). In l s) (same_awaited p n) h)
 
         queue : (i : ℕ) → QueueKept (queue_at qs i) (length (w.log ++ Event.Retire o ∷ [])) awaited'
         queue i = assumption (
@@ -301,7 +297,7 @@ module _ {P : Type 0} {plans : Plans P} {layout : Layout} {slots : ℕ} {laws : 
           queue_step f x' (Some m) now.retired (o ∷ now.queued) now.awaited (longer w.log (Event.Queue o j ∷ []))
               (items_queued w.objects qs j now.retired now.queued now.reclaimed o inside (life_within w.objects o (λ e. cc (sym g.1.0 ∙ e))) g.1.0 k.items)
               (at_queues (λ i r. QueueKept r (length (w.log ++ Event.Queue o j ∷ [])) now.awaited) f qs j inside pushed_kept
-              (λ i apart. queue_more (longer w.log (Event.Queue o j ∷ [])) (k.queues i))) k.awaits_open
+              (λ i apart. queue_more (longer w.log (Event.Queue o j ∷ [])) (k.queues i)))
               (retire_here qs j f inside (marked_life w.objects (Some m)) count u o RetireStep.Free refl (g.0, g.1.3 ∙ sym given))
               (λ v apart. retire_marked w.objects m (after f) count v (updater_at w.updaters v).place (other_object g.1.1 v apart) (retire_apart qs j f inside w.objects count v (updater_at w.updaters v).place (other_holder g.0 v apart) (k.retiring v)))
               (at_queues (λ i r. WorkAt r now.asked now.awaited now.asked_sections (worker_at w.workers i)) f qs j inside (k.working j) (λ i apart. k.working i)) tt (pushed_stays qs j o inside),
@@ -377,12 +373,9 @@ module _ {P : Type 0} {plans : Plans P} {layout : Layout} {slots : ℕ} {laws : 
       has : In now.queued o × (not (has_object now.reclaimed o) ≡ true)
       has = filter_has (λ (p : ObjectId). not (has_object now.reclaimed p)) now.queued o h
 
-      not_reclaimed : ¬ In now.reclaimed o
-      not_reclaimed g = true≢false (sym has.1 ∙ ap not (has_object_in now.reclaimed o g))
-
       queued : (l : Life) → life_of w.objects o ≡ l → life_of w.objects o ≡ Life.Queued
       queued Life.Queued e = e
-      queued Life.Reclaimed e = absurd (not_reclaimed (lives_as k.items o e).2)
+      queued Life.Reclaimed e = absurd (true≢false (sym has.1 ∙ ap not (has_object_in now.reclaimed o (lives_as k.items o e).2)))
       queued _ e = absurd ((lives_as k.items o e).1 has.0)
 
       from : (j : ℕ) × (s : ℕ) × (j < queues) × InQueue (queue_at qs j) s o → Faces qs (replicate 8 0) (Note 0) o

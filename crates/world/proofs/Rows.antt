@@ -1,5 +1,5 @@
 -- Each row of the step table, gone through once: what stood there before the line, and what the tests of the row say.
-use Rattle.world.proofs.Cited.{◌≡◌, ◌⊎◌, inl, inr, ℕ, true, false, List, [], ◌∷◌, Option, Some, None, Result, Ok, Err, refl, sym, subst, cond_both, Event, Refusal, Action, Load, Turn, cookie_for, SyncCore, Asks, Waits, Checks, Starts, Runs, Frees, Done, asked_with, is_finished, turned, Quiet, Wait, Blocked, Holder, Plans, BoardView, told, true≢false, ◌+◌, ◌^◌, ◌==◌, cond, not, Bool, length, get_or, slice_get, nat_le, nat_lt, ◌∙◌, not-false, IfErr, ObjectId, NoActor, NotOpen, Busy, WrongFlavour, NoPlace, Layout, count_of, greatest_count, entered_of, left_of, is_online, Item, Ticket, items_of, Tickets, WorkerCore, new_core, after_take, item_done, Answer, Events, Line, Reader, Updater, Worker, ReaderVerb, UpdaterVerb, WorkerVerb, Mark, ObjectState, QueueAct, QueueState, ReaderState, ReaderStep, Barrier, BarrierStep, Note, Check, GraceState, Publishing, RetireStep, Started, UpdaterPlace, Idle, Publishes, Syncs, Retires, Bars, UpdaterState, WorkerState, Change, Read, Begin, Publish, Grace, Hold, Bar, Work, Stay, fresh_object, item_of, section_of, is_open_in, quietly, telling, with_word, opened, closed, found_row, stores, lock_row, enter_row, unlock_row, online_row, quiescent_row, offline_row, announce_row, go_online_row, touch_row, changed, Life, Told, GraceStep, one, stepped, action_effect, lock_effect, plan_now, planned, done_with, grace_row, is_blocked, is_waiting, sync_row, start_row, poll_row, IsInside, writes, next_object, first_row, next_row, next_from, push_row, replace_row, cut_row, pushed_row, replaced_row, published, linked_by, of_memb, of_qsbr, in_section, reader_on, reader_verb, reader_line, of_reader, grace_change, is_idle, updater_on, updater_verb, updater_line, of_updater, worker_verb, worker_line, of_worker, row_of, change_of, with_change, outcome_of, world_after, IsStepError, IsOfReader, IsStalled, is_none_left, first_in, first_fresh, with_core, take_row, ask_for, work_change, run_row, worker_on, is_resting}
+use Rattle.world.proofs.Cited.{◌≡◌, ◌⊎◌, inl, inr, ℕ, true, false, List, [], ◌∷◌, Option, Some, None, Result, Ok, Err, refl, sym, ap, subst, unwrap_or, unwrap_or-slice_get, get_or_from_slice_get, cond_both, Event, Refusal, Action, Load, Turn, cookie_for, SyncCore, Asks, Waits, Checks, Starts, Runs, Frees, Done, asked_with, is_finished, turned, Quiet, Wait, Blocked, Holder, Plans, BoardView, told, true≢false, ◌+◌, ◌^◌, ◌==◌, cond, not, Bool, length, get_or, slice_get, nat_le, nat_lt, ◌∙◌, not-false, IfErr, ObjectId, NoActor, NotOpen, Busy, WrongFlavour, NoPlace, Layout, count_of, greatest_count, entered_of, left_of, is_online, Item, Ticket, items_of, Tickets, WorkerCore, new_core, after_take, item_done, Answer, Events, Line, Reader, Updater, Worker, ReaderVerb, UpdaterVerb, WorkerVerb, Mark, ObjectState, QueueAct, QueueState, ReaderState, ReaderStep, Barrier, BarrierStep, Note, Check, GraceState, Publishing, RetireStep, Started, UpdaterPlace, Idle, Publishes, Syncs, Retires, Bars, UpdaterState, WorkerState, Change, Read, Begin, Publish, Grace, Hold, Bar, Work, Stay, fresh_object, item_of, section_of, is_open_in, quietly, telling, with_word, opened, closed, found_row, stores, lock_row, enter_row, unlock_row, online_row, quiescent_row, offline_row, announce_row, go_online_row, touch_row, changed, Life, Told, GraceStep, one, stepped, action_effect, lock_effect, plan_now, planned, done_with, grace_row, is_blocked, is_waiting, sync_row, start_row, poll_row, IsInside, writes, next_object, first_row, next_row, next_from, push_row, replace_row, cut_row, pushed_row, replaced_row, published, linked_by, of_memb, of_qsbr, in_section, reader_on, reader_verb, reader_line, of_reader, grace_change, is_idle, updater_on, updater_verb, updater_line, of_updater, worker_verb, worker_line, of_worker, row_of, change_of, with_change, outcome_of, world_after, IsStepError, IsOfReader, IsStalled, is_none_left, first_in, first_fresh, with_core, take_row, ask_for, work_change, run_row, worker_on, is_resting}
 use Rattle.std.specs.Prelude.{nat_le, is_some}
 use Rattle.call_rcu_worker.specs.Sync.{telling as sync_telling}
 use Rattle.world.specs.declared.grace.Effect.{Effect}
@@ -119,6 +119,11 @@ none_is (Some x) e = absurd (true≢false e)
 pub by_option : {X : Type 0} (Q : Option X → Type 0) (o : Option X) → (o ≡ None → Q None) → ((x : X) → o ≡ Some x → Q (Some x)) → Q o
 by_option Q None none some = none refl
 by_option Q (Some x) none some = some x refl
+
+-- and so is an entry, as it is read where a list may end before it
+pub by_entry : {X : Type 0} (Q : Option X → X → Type 0) (xs : List X) (i : ℕ) (d : X) → Q None d → ((x : X) → slice_get xs i ≡ Some x → Q (Some x) x) → Q (slice_get xs i) (get_or xs i d)
+by_entry Q xs i d none some = by_option (λ o. Q o (get_or xs i d)) (slice_get xs i) (λ is. subst (Q None) (sym (ap (λ o. unwrap_or o d) is) ∙ unwrap_or-slice_get xs i d) none)
+    (λ x is. subst (Q (Some x)) (sym (get_or_from_slice_get xs i x d is)) (some x is))
 
 -- a step that was not made tells nothing
 pub stalled_silent : (answer : Answer) → IsStalled answer → told answer ≡ []
@@ -302,9 +307,6 @@ module _ {P : Type 0} (plans : Plans P) (w : BoardView P) where
       refuses : (line : Line) (e : Refusal) → IsStepError e → G line (refused e)
       refuses line e h = s.stops line true e (unreached e) h (λ never. absurd (true≢false never))
 
-      one_of : (line : Line) (b : Bool) (y z : Change P) → (b ≡ true → G line (makes y)) → (b ≡ false → G line (makes z)) → G line (makes (cond b y z))
-      one_of line b y z = cond_both b y z (λ (change : Change P). G line (makes change))
-
       turn : (line : Line) → (IsOfReader line → ⊥) → (change : GraceStep P → Change P) (r : Result (GraceStep P) Refusal) → Fails r → ((step : GraceStep P) → r ≡ Ok step → is_blocked step.answer ≡ false → is_waiting step.answer ≡ false → G line (makes (change step))) → G line (sync_row change r)
       turn line never change (Ok step) f h = s.stalls line (is_blocked step.answer) Blocked (guarded (stalled_if (is_waiting step.answer) Wait ∷ []) (Ok (change step))) never tt
           (λ goes. s.stalls line (is_waiting step.answer) Wait (makes (change step)) never tt (λ on. h step refl goes on))
@@ -407,7 +409,7 @@ module _ {P : Type 0} (plans : Plans P) (w : BoardView P) where
         barrier : (b : Barrier) (step : BarrierStep) → WasAt u x (Bars b) → b.due ≡ step → U UpdaterVerb.GoOn (barrier_on w u x b step)
         barrier b (Note q) at is = rows_of _ _ (ByNote b q at is)
         barrier b (Check q) at is = s.stalls (Updater u UpdaterVerb.GoOn) (not (nat_le (get_or b.counts q 0) (finished_in (slice_get w.queues q)))) Wait (makes (checked w u x b q)) none tt (λ up.
-            one_of (Updater u UpdaterVerb.GoOn) (nat_lt (q + 1) (length w.queues)) _ _ (λ more. rows_of _ _ (ByCheck b q at is (not_false up) more)) (λ last. rows_of _ _ (ByClear b q at is (not_false up) last)))
+            cond_both (nat_lt (q + 1) (length w.queues)) _ _ (λ (change : Change P). U UpdaterVerb.GoOn (makes change)) (λ more. rows_of _ _ (ByCheck b q at is (not_false up) more)) (λ last. rows_of _ _ (ByClear b q at is (not_false up) last)))
 
         go_on : (place : UpdaterPlace P) → WasAt u x place → not (is_idle place) ≡ true → U UpdaterVerb.GoOn (updater_on plans w u x place)
         go_on Idle at busy = absurd (true≢false (sym busy))
@@ -495,14 +497,14 @@ module _ {P : Type 0} (plans : Plans P) (w : BoardView P) where
       works = law.works;
     }) line
 
+-- what holds of refusals, and of what each change makes, holds of what comes of a line
+pub by_change : {P : Type 0} (plans : Plans P) (w : BoardView P) (F : Line → Change P → Type 0) (Q : Result (Change P) Refusal → Type 0) → Law plans w F → (line : Line) → ((e : Refusal) → Q (Err e)) → ((change : Change P) → F line change → Q (Ok change)) → Q (change_of plans w line)
+by_change plans w F Q law line refused makes = (elim (change_of plans w line) as (λ x. Each plans w F line x → Q x) [ Ok change ↦ makes change | Err e ↦ λ _. refused e ]) (by_law plans w F law line)
+
 -- what each change keeps, all lines keep
 module _ {P : Type 0} (plans : Plans P) (I : BoardView P → Type 0) (F : BoardView P → Line → Change P → Type 0) (keeps : (w : BoardView P) (line : Line) (change : Change P) → F w line change → I w → I (changed w change)) where
-  over_change : (w : BoardView P) (line : Line) (x : Result (Change P) Refusal) → Each plans w (F w) line x → I w → I ((with_change w x).world)
-  over_change w line (Ok change) f i = keeps w line change f i
-  over_change w line (Err e) f i = i
-
   pub over_line : (w : BoardView P) → Law plans w (F w) → (line : Line) → I w → I ((outcome_of plans w line).world)
-  over_line w law line i = over_change w line (change_of plans w line) (by_law plans w (F w) law line) i
+  over_line w law line i = by_change plans w (F w) (λ x. I ((with_change w x).world)) law line (λ e. i) (λ change f. keeps w line change f i)
 
   pub over_lines : ((w : BoardView P) → Law plans w (F w)) → (w : BoardView P) (lines : List Line) → I w → I (world_after plans w lines)
   over_lines law w [] i = i

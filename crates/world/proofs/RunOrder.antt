@@ -1,10 +1,9 @@
 -- The callbacks of each queue run in the order in which they were queued.
-use Rattle.world.proofs.Cited.{◌≡◌, ◌≢◌, ◌⊎◌, ⊎_elim, ℕ, inl, inr, ◌+◌, ◌%◌, ◌^◌, ◌<◌, ◌≤◌, true, List, [], ◌∷◌, ◌++◌, length, slice_get, Some, None, Ok, refl, sym, ap, ◌∙◌, subst, cons_option, filter_map, slice_get-get_or, Event, ObjectId, State, start, after, after_all, has_object, In, in_append, filter_has, runs_of, NoTurn, InTurn, quiet_turn, queued_turn, queued_elsewhere, run_turn, run_elsewhere, Item, Ticket, items_of, without_first, object_with, Layout, SyncCore, Tickets, WorkerCore, new_core, Config, Line, Life, QueueAct, QueueState, Holder, RetireStep, UpdaterPlace, Retires, UpdaterState, WorkerState, Change, is_within_limits, empty_queue_state, item_of, acted, held_by, changed_at, acted_at, Plans, BoardView, fresh_at, changed, told, decide_number, life_of, Items, Has, InQueue, has_stands, queue_at, changed_here, changed_else, items_sealed, items_advanced, items_pushed, queued_by, run_by, queued_into, run_from, GraceStep, world_after, queue_of, retire_on, ask_for, worker_act, first_in, grace_row}
+use Rattle.world.proofs.Cited.{grows, map, map-append, ◌≡◌, ◌≢◌, ◌⊎◌, ⊎_elim, ℕ, inl, inr, ◌+◌, ◌%◌, ◌^◌, ◌<◌, ◌≤◌, true, List, [], ◌∷◌, ◌++◌, length, slice_get, Some, None, Ok, refl, sym, ap, ◌∙◌, subst, cons_option, filter_map, slice_get-get_or, Event, ObjectId, State, start, after, after_all, has_object, In, in_append, filter_has, runs_of, NoTurn, InTurn, quiet_turn, queued_turn, queued_elsewhere, run_turn, run_elsewhere, Item, Ticket, items_of, without_first, object_with, Layout, SyncCore, Tickets, WorkerCore, new_core, Config, Line, Life, QueueAct, QueueState, Holder, RetireStep, UpdaterPlace, Retires, UpdaterState, WorkerState, Change, is_within_limits, empty_queue_state, item_of, acted, held_by, changed_at, acted_at, Plans, BoardView, fresh_at, changed, told, decide_number, life_of, Items, Has, InQueue, has_stands, queue_at, changed_here, changed_else, items_sealed, items_advanced, items_pushed, queued_by, run_by, queued_into, run_from, GraceStep, world_after, queue_of, retire_on, ask_for, worker_act, first_in, grace_row}
 use Rattle.world.proofs.State.{stands_at}
 use Rattle.call_rcu_worker.specs.Worker.{synced as synced_to}
 use Rattle.world.specs.RunOrder.{RunInOrder}
-use Rattle.world.proofs.Moving.{work_now}
-use Rattle.world.proofs.Callbacks.{lives_as, own_queue, its_queue, IsOther, RetireKept, at_queues, AreOther, other_reads}
+use Rattle.world.proofs.Callbacks.{its_work, lives_as, own_queue, its_queue, IsOther, RetireKept, at_queues, AreOther, other_reads}
 use Rattle.world.proofs.Fence.{Laws}
 use Rattle.world.proofs.Rows.{tells, ByPush, ByReplace, BySync, ByTurn, ByHold, ByRetire, UpdaterRows, WasAt, WorkedAt, Law}
 use Rattle.world.proofs.Logged.{get_replicate, Logged, always}
@@ -12,12 +11,6 @@ use Rattle.world.proofs.Logged.{get_replicate, Logged, always}
 -- ---- the log
 
 -- what ran is reclaimed
-stays_reclaimed : (now : State) (e : Event) (o : ObjectId) → In now.reclaimed o → In (after now e).reclaimed o
-stays_reclaimed now (Event.Run p) o h = inr h
-stays_reclaimed now (Event.First s c None) o h = h
-stays_reclaimed now (Event.Next s p None) o h = h
-stays_reclaimed now _ o h = h
-
 one_reclaimed : (now : State) (e : Event) (es : List Event) (o : ObjectId) → In (runs_of (e ∷ es)) o → In (after now e).reclaimed o ⊎ In (runs_of es) o
 one_reclaimed now (Event.Run p) es o (inl is) = inl (inl is)
 one_reclaimed now (Event.Run p) es o (inr h) = inr h
@@ -26,7 +19,7 @@ one_reclaimed now _ es o h = inr h
 all_reclaimed : (now : State) (es : List Event) (o : ObjectId) → In now.reclaimed o ⊎ In (runs_of es) o → In (after_all now es).reclaimed o
 all_reclaimed now [] o (inl h) = h
 all_reclaimed now [] o (inr h) = absurd h
-all_reclaimed now (e ∷ es) o (inl h) = all_reclaimed (after now e) es o (inl (stays_reclaimed now e o h))
+all_reclaimed now (e ∷ es) o (inl h) = all_reclaimed (after now e) es o (inl ((grows now e).reclaimed o h))
 all_reclaimed now (e ∷ es) o (inr h) = all_reclaimed (after now e) es o (one_reclaimed now e es o h)
 
 other_runs : (e : Event) → IsOther e → (run_by e ≡ None) × ((q : ℕ) → queued_by q e ≡ None)
@@ -50,12 +43,7 @@ others_run (e ∷ es) h =
 -- ---- what waits
 
 abbrev objects_of : Items → List ObjectId
-objects_of [] = []
-objects_of (i ∷ is) = i.object ∷ objects_of is
-
-objects_more : (is : Items) (i : Item Unit) → objects_of (is ++ i ∷ []) ≡ objects_of is ++ i.object ∷ []
-objects_more [] i = refl
-objects_more (j ∷ is) i = ap (λ l. j.object ∷ l) (objects_more is i)
+objects_of is = map (λ (i : Item Unit). i.object) is
 
 has_item : (is : Items) (o : ObjectId) → In (objects_of is) o → Has is o
 has_item [] o h = absurd h
@@ -146,7 +134,7 @@ module _ {P : Type 0} (plans : Plans P) (layout : Layout) (slots : ℕ) (laws : 
   turn_retire u x o RetireStep.Push at =
       let j : ℕ = queue_of w u in
       queues_one w.log w.queues (acted_at w.queues j (QueueAct.Push o)) j o (not_yet o (lives_as l.callbacks.items o retired).2)
-      (ap waiting_in (changed_here (acted (QueueAct.Push o)) w.queues j (own_queue u l.callbacks.sizes)) ∙ ap objects_of (items_pushed (mine j).items (item_of o)) ∙ objects_more (items_of (mine j).items) (item_of o))
+      (ap waiting_in (changed_here (acted (QueueAct.Push o)) w.queues j (own_queue u l.callbacks.sizes)) ∙ ap objects_of (items_pushed (mine j).items (item_of o)) ∙ map-append (λ (i : Item Unit). i.object) (items_of (mine j).items) (item_of o ∷ []))
       (λ q apart. ap waiting_in (changed_else (acted (QueueAct.Push o)) w.queues j q apart))
     where
       retired : life_of w.objects o ≡ Life.Retired
@@ -208,7 +196,7 @@ module _ {P : Type 0} (plans : Plans P) (layout : Layout) (slots : ℕ) (laws : 
     reads = λ r v verb was step row. leaves (told step.answer) (others_run (told step.answer) (other_reads plans.qsbr w.layout w r v step row));
     updates = λ u x was. turn_updates u x;
     works = λ k x was. record {
-      takes = λ q at is free some. let rests = work_now plans layout slots laws w l k x WorkerCore.Idle at in
+      takes = λ q at is free some. let rests = its_work w now l.callbacks k x at.was at.at in
           quiet w.log w.queues _ _ none (waits_same (acted QueueAct.Seal) w.queues k (its_queue k x l.callbacks.sizes at.was) (items_sealed (mine k).items rests.0 rests.1));
       works = λ sync tickets step at is goes on. quiet w.log w.queues _ _ (grace_quiet (Holder.Worker k) (ask_for w x.ask sync) sync step is)
           (waits_same (acted (worker_act step.grace.seq (synced_to step.core tickets))) w.queues k (its_queue k x l.callbacks.sizes at.was) (worker_keeps step.grace.seq (synced_to step.core tickets) (mine k)));

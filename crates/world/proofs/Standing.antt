@@ -1,10 +1,9 @@
 -- The first test that fails goes by where the actor stands, and by the lock that its step needs free.
-use Rattle.world.proofs.Cited.{◌≡◌, ◌≢◌, ◌+◌, ◌-◌, ◌^◌, ◌==◌, ◌&&◌, ℕ, nat_le, nat_lt, cond, not, Bool, true, false, is_some, List, [], ◌∷◌, slice_get, Option, Some, None, Result, Ok, Err, refl, sym, ap, subst, IfOk, IfErr, option_map_or, get_or_from_slice_get, Close, ObjectId, Refusal, NotOpen, Busy, NestFull, NoActor, NoPlace, count_of, greatest_count, fresh, is_online, cookie_for, items_of, SyncCore, Told, WorkerCore, Telling, asked_with, is_finished, turned, told_of, Change, Answer, Events, Quiet, Wait, Blocked, Line, Reader, Updater, Worker, ReaderVerb, UpdaterVerb, WorkerVerb, QueueState, ReaderState, ReaderStep, Note, Check, GraceState, Holder, Publishing, UpdaterPlace, Idle, Publishes, Syncs, Bars, UpdaterState, WorkerState, new_worker, empty_queue_state, section_of, is_open_in, quietly, telling, with_word, closed, stores, touch_row, Plans, BoardView, idle, Turn, GraceStep, answer_to, linked_by, first_row, next_row, next_from, push_row, replace_row, cut_row, pushed_row, replaced_row, published, stepped, lock_effect, action_effect, plan_now, planned, done_with, grace_row, sync_row, start_row, poll_row, operation_test, reads_on, reader_verb, reader_line, grace_change, is_idle, updater_on, updates_on, updater_verb, updater_line, works_on, worker_verb, worker_line, of_reader, of_updater, of_worker, row_of, lock_of, IsOfVerb, Test, refused_if, stalled_if, first_failing, refusal_of, WorldView, OfMemb, OfQsbr, memb_plans, qsbr_plans, IsPrompt, exact, tests_of, MeetsTests, is_none_left, first_in, take_row, run_row, worker_on, work_change, ask_for, is_resting}
+use Rattle.world.proofs.Cited.{QueueState, ◌≡◌, ◌≢◌, ◌+◌, ◌-◌, ◌^◌, ◌==◌, ◌&&◌, ℕ, nat_le, nat_lt, cond, not, Bool, true, false, is_some, List, [], ◌∷◌, slice_get, Option, Some, None, Result, Ok, Err, refl, sym, subst, IfOk, IfErr, option_map_or, get_or_from_slice_get, Close, ObjectId, Refusal, NotOpen, Busy, NestFull, NoActor, NoPlace, count_of, greatest_count, fresh, is_online, cookie_for, items_of, SyncCore, Told, WorkerCore, Telling, asked_with, is_finished, turned, told_of, Change, Answer, Events, Quiet, Wait, Blocked, Line, Reader, Updater, Worker, ReaderVerb, UpdaterVerb, WorkerVerb, ReaderState, ReaderStep, Note, Check, GraceState, Holder, Publishing, UpdaterPlace, Idle, Publishes, Syncs, Bars, UpdaterState, WorkerState, new_worker, empty_queue_state, section_of, is_open_in, quietly, telling, with_word, closed, stores, touch_row, Plans, BoardView, idle, Turn, GraceStep, answer_to, linked_by, first_row, next_row, next_from, push_row, replace_row, cut_row, pushed_row, replaced_row, published, stepped, lock_effect, action_effect, plan_now, planned, done_with, grace_row, sync_row, start_row, poll_row, operation_test, reads_on, reader_verb, reader_line, grace_change, is_idle, updater_on, updates_on, updater_verb, updater_line, works_on, worker_verb, worker_line, of_reader, of_updater, of_worker, row_of, lock_of, IsOfVerb, Test, refused_if, stalled_if, first_failing, refusal_of, WorldView, OfMemb, OfQsbr, memb_plans, qsbr_plans, IsPrompt, exact, tests_of, MeetsTests, is_none_left, first_in, take_row, run_row, worker_on, work_change, ask_for, is_resting}
 use Rattle.world.specs.Blocking.{is_to_lock, place_is_to_lock, core_is_to_lock, needs_held_lock, is_locked_out, IsBlockedIf}
 use Rattle.world.specs.Queues.{queue_of, may_retire, lock_row as queue_lock_row, barrier_on}
 use Rattle.world.specs.Standing.{outside, by_section, by_cookie, by_operation, refusal_in, standing_refusal, MeetsStanding}
-use Rattle.world.proofs.Checks.{past}
-use Rattle.world.proofs.Rows.{by_option}
+use Rattle.world.proofs.Rows.{by_option, by_entry}
 
 -- what the first test that fails says: a refusal by where the actor stands, or whether a lock is held
 abbrev Tells : Option Refusal → Bool → Option (Result Answer Refusal) → Type 0
@@ -156,19 +155,16 @@ module _ {P : Type 0} (plans : Plans P) (w : BoardView P) where
     goes_on (Bars b) = plain (barrier_on w u x b b.due).tests (elim b.due as (λ step. ArePlain (barrier_on w u x b step).tests) [ Note q ↦ tt | Check q ↦ (waits, tt) ])
     goes_on _ = refl
 
-    retires : (o : ObjectId) (may : Bool) (q : Option QueueState) → slice_get w.queues (queue_of w u) ≡ q → Tells None (may && is_some (lock_of w (queue_of w u))) (first_failing (refused_if (not may) NoPlace ∷ (queue_lock_row w u x o q).tests))
-    retires o false q is = tt
-    retires o true None is = ap (λ (q : QueueState). is_some q.holder) (past w.queues (queue_of w u) empty_queue_state is)
-    retires o true (Some q) is =
-        subst (λ (z : QueueState). Tells None (is_some z.holder) (first_failing (queue_lock_row w u x o (Some q)).tests)) (sym (get_or_from_slice_get w.queues (queue_of w u) q empty_queue_state is))
-        (locks (is_some q.holder) [] tt)
+    retires : (o : ObjectId) (may : Bool) → Tells None (may && is_some (lock_of w (queue_of w u))) (first_failing (refused_if (not may) NoPlace ∷ (queue_lock_row w u x o (slice_get w.queues (queue_of w u))).tests))
+    retires o false = tt
+    retires o true = by_entry (λ q (z : QueueState). Tells None (is_some z.holder) (first_failing (queue_lock_row w u x o q).tests)) w.queues (queue_of w u) empty_queue_state refl (λ q is. locks (is_some q.holder) [] tt)
 
     -- a verb, by its tests
     verb_updates : slice_get w.updaters u ≡ Some x → (verb : UpdaterVerb) → Tells (by_cookie verb x.started) (needs_held_lock w (Updater u verb)) (first_failing (updater_verb plans w u x verb).tests)
     verb_updates there (UpdaterVerb.Push c) = plain (push_row w u x c (slice_get w.heads c)).tests (elim (slice_get w.heads c) as (λ head. ArePlain (push_row w u x c head).tests) [ None ↦ (tt, tt) | Some head ↦ (tt, tt) ])
     verb_updates there (UpdaterVerb.Replace o) = plain (replace_row w u x o (linked_by w u (slice_get w.objects o.0))).tests (elim (linked_by w u (slice_get w.objects o.0)) as (λ y. ArePlain (replace_row w u x o y).tests) [ None ↦ (tt, tt) | Some y ↦ tt ])
     verb_updates there (UpdaterVerb.Cut o) = plain (cut_row u x o (linked_by w u (slice_get w.objects o.0))).tests (elim (linked_by w u (slice_get w.objects o.0)) as (λ y. ArePlain (cut_row u x o y).tests) [ None ↦ (tt, tt) | Some y ↦ tt ])
-    verb_updates there (UpdaterVerb.Retire o) = retires o (may_retire w u (slice_get w.objects o.0)) (slice_get w.queues (queue_of w u)) refl
+    verb_updates there (UpdaterVerb.Retire o) = retires o (may_retire w u (slice_get w.objects o.0))
     verb_updates there UpdaterVerb.Sync = tells_sync (grace_change plans u x (w.grace.asks + 1)) (Holder.Updater u) (w.grace.asks + 1) SyncCore.Asks
     verb_updates there UpdaterVerb.Start = plain (start_row w u x (cookie_for w.grace.seq)).tests
         ((elim (cookie_for w.grace.seq) as (λ cookie. Fine cookie → ArePlain (start_row w u x cookie).tests) [ Ok c ↦ λ h. tt | Err e ↦ λ h. (h, tt) ]) (fine_cookie w.grace.seq))
@@ -186,11 +182,9 @@ module _ {P : Type 0} (plans : Plans P) (w : BoardView P) where
   -- ---- workers
 
   module _ (k : ℕ) (x : WorkerState P) where
-    takes : (q : Option QueueState) → slice_get w.queues k ≡ q → Tells None (is_some (lock_of w k)) (first_failing (take_row w k x q).tests)
-    takes None is = ap (λ (q : QueueState). is_some q.holder) (past w.queues k empty_queue_state is)
-    takes (Some q) is =
-        subst (λ (z : QueueState). Tells None (is_some z.holder) (first_failing (take_row w k x (Some q)).tests)) (sym (get_or_from_slice_get w.queues k q empty_queue_state is))
-        (locks (is_some q.holder) (stalled_if (is_none_left (items_of q.items)) Answer.Idle ∷ []) ((λ e. let no : Answer.Idle ≡ Blocked = e in cc), tt))
+    takes : Tells None (is_some (lock_of w k)) (first_failing (take_row w k x (slice_get w.queues k)).tests)
+    takes = by_entry (λ q (z : QueueState). Tells None (is_some z.holder) (first_failing (take_row w k x q).tests)) w.queues k empty_queue_state refl
+        (λ q is. locks (is_some q.holder) (stalled_if (is_none_left (items_of q.items)) Answer.Idle ∷ []) ((λ e. let no : Answer.Idle ≡ Blocked = e in cc), tt))
 
     works_at : (place : WorkerCore P Unit) → Tells None (core_is_to_lock place && is_some w.grace.holder) (first_failing (worker_on plans w k x place).tests)
     works_at (WorkerCore.Syncs sync tickets) = tells_sync (work_change k (ask_for w x.ask sync) tickets) (Holder.Worker k) (ask_for w x.ask sync) sync
@@ -198,7 +192,7 @@ module _ {P : Type 0} (plans : Plans P) (w : BoardView P) where
     works_at _ = refl
 
     verb_works : slice_get w.workers k ≡ Some x → (verb : WorkerVerb) → Tells None (needs_held_lock w (Worker k verb)) (first_failing (worker_verb plans w k x verb).tests)
-    verb_works there WorkerVerb.Take = takes (slice_get w.queues k) refl
+    verb_works there WorkerVerb.Take = takes
     verb_works there WorkerVerb.GoOn =
         subst (λ (y : WorkerState P). Tells None (core_is_to_lock y.core && is_some w.grace.holder) (first_failing (worker_on plans w k x x.core).tests)) (sym (get_or_from_slice_get w.workers k x new_worker there)) (works_at x.core)
 

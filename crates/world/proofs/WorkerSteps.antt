@@ -1,10 +1,10 @@
 -- What the lines of workers keep, and that what they tell may come.
-use Rattle.world.proofs.Cited.{synced, nil_from_length, ◌≡◌, ◌≢◌, ◌⊎◌, ⊎_elim, ℕ, true≢false, inl, inr, ◌+◌, ◌%◌, ◌<◌, ◌≤◌, ltb, false, List, [], ◌∷◌, ◌++◌, length, slice_get, slice_set, Option, Some, None, Result, Ok, refl, sym, ap, ◌∙◌, subst, arith, length-set, lt-ltb, ltb-true, ltb-false, cond-true, cond_both, none-some, same_Some, slice_get_within, slice_get-get_or, get_or_from_slice_get, Event, ObjectId, SectionId, Refusal, without_object, State, In, has_object_in, in_objects, without_object_has, decide, Layout, Item, Ticket, items_of, given_of, sealed, popped, without_first, object_with, SyncCore, Tickets, WorkerCore, new_core, after_take, tickets_from, rest_of, item_done, Quiet, Life, Mark, ObjectState, QueueAct, QueueState, WorkerState, Change, marked_life, new_worker, empty_queue_state, item_of, acted, changed_at, acted_at, Plans, BoardView, chain_of, life_of, life_within, life_marked, life_else, Items, Has, Stands, InQueue, queue_at, stands_above, changed_here, changed_else, changed_length, items_sealed, cond, le-leb, after as next_state, empty_from, at_number_same, is_due, after_advance, GraceState, has_either, items_advanced, changed, IsAllowed, after_all, AreAllowed, told, leb-true, Holder, one, first_fresh, with_core, is_none_left, first_in, ask_for, work_change, worker_act, GraceStep, is_blocked, is_waiting, grace_row}
+use Rattle.world.proofs.Cited.{AwaitsOpen, synced, nil_from_length, ◌≡◌, ◌≢◌, ◌⊎◌, ⊎_elim, ℕ, true≢false, inl, inr, ◌+◌, ◌%◌, ◌<◌, ◌≤◌, ltb, false, List, [], ◌∷◌, ◌++◌, length, slice_get, slice_set, Option, Some, None, Result, Ok, refl, sym, ap, ◌∙◌, subst, arith, length-set, lt-ltb, ltb-true, ltb-false, cond-true, cond_both, none-some, same_Some, slice_get_within, slice_get-get_or, get_or_from_slice_get, Event, ObjectId, SectionId, Refusal, without_object, State, In, has_object_in, in_objects, without_object_has, decide, Layout, Item, Ticket, items_of, given_of, sealed, popped, without_first, object_with, SyncCore, Tickets, WorkerCore, new_core, after_take, tickets_from, rest_of, item_done, Quiet, Life, Mark, ObjectState, QueueAct, QueueState, WorkerState, Change, marked_life, new_worker, empty_queue_state, item_of, acted, changed_at, acted_at, Plans, BoardView, chain_of, life_of, life_within, life_marked, life_else, Items, Has, Stands, InQueue, queue_at, stands_above, changed_here, changed_else, changed_length, items_sealed, cond, le-leb, after as next_state, empty_from, at_number_same, is_due, after_advance, GraceState, has_either, items_advanced, changed, IsAllowed, after_all, AreAllowed, told, leb-true, Holder, one, first_fresh, with_core, is_none_left, first_in, ask_for, work_change, worker_act, GraceStep, is_blocked, is_waiting, grace_row}
 use Rattle.callback_queue.specs.Queue.{Queue}
 use Rattle.world.proofs.Fence.{Work, Rests, Laws, Checks, Sets}
 use Rattle.world.proofs.State.{Asker, Working, core_work, worker_work, worker_at, work_of, updater_at, Kept, at_workers}
 use Rattle.world.proofs.KeptReaders.{longer}
-use Rattle.world.proofs.Callbacks.{its_queue, Found, RetireKept, ItemsKept, lives_as, QueueKept, BatchWaits, BatchKept, WorkKept, WorkAt, CallbacksKept, Callbacks, at_queues, queue_more, items_kept, sizes_over, numbers_over, over_event, found_over, retire_marked, retire_through, bar_over, stays, items_stay, OwesAll}
+use Rattle.world.proofs.Callbacks.{its_work, its_queue, Found, RetireKept, ItemsKept, lives_as, QueueKept, BatchWaits, BatchKept, WorkAt, CallbacksKept, Callbacks, at_queues, queue_more, items_kept, sizes_over, numbers_over, over_event, found_over, retire_marked, retire_through, bar_over, stays, items_stay, OwesAll}
 use Rattle.world.proofs.KeptPublishing.{kept_worker, kept_work, worker_set}
 use Rattle.world.proofs.Retirements.{more_reclaimed, lives_marked}
 use Rattle.world.proofs.Asking.{begun_goes, StepKept, IsDue, reached_none, kept_turn, asks_alone, ends}
@@ -151,9 +151,6 @@ module _ {P : Type 0} {plans : Plans P} {layout : Layout} {slots : ℕ} {laws : 
   at_queue : slice_get queues n ≡ Some mine
   at_queue = slice_get-get_or queues n empty_queue_state (its_queue n x k.sizes at)
 
-  pub my_work : WorkAt mine now.asked now.awaited now.asked_sections x
-  my_work = subst (λ (y : WorkerState P). WorkAt mine now.asked now.awaited now.asked_sections y) is (k.working n)
-
   pub work_is : works (Working n) ≡ worker_work x.ask x.core
   work_is = ap (λ (y : WorkerState P). worker_work y.ask y.core) is
 
@@ -173,7 +170,7 @@ module _ {P : Type 0} {plans : Plans P} {layout : Layout} {slots : ℕ} {laws : 
   -- `take`
   module _ (idle : x.core ≡ WorkerCore.Idle) where
     empty : (mine.items.ready ≡ []) × (mine.items.waiting ≡ []) × (mine.finished ≡ mine.items.gone)
-    empty = subst (λ (p : WorkerCore P Unit). WorkKept mine.items.ready mine.items.waiting mine.items.cookie mine.items.gone mine.finished now.asked now.awaited now.asked_sections x.ask p) idle my_work
+    empty = its_work w now k n x at idle
 
     abbrev all : Tickets
     all = tickets_from (first_fresh mine.items) (length mine.items.fresh)
@@ -201,7 +198,7 @@ module _ {P : Type 0} {plans : Plans P} {layout : Layout} {slots : ℕ} {laws : 
   -- an item is run
   module _ (tickets : Tickets) (pops : x.core ≡ WorkerCore.Pops tickets) where
     popping : (mine.items.waiting ≡ []) × (tickets.left ≡ length mine.items.ready) × (1 ≤ tickets.left) × (mine.finished ≡ mine.items.gone) × (tickets.last.0 ≡ mine.items.gone + tickets.left)
-    popping = subst (λ (p : WorkerCore P Unit). WorkKept mine.items.ready mine.items.waiting mine.items.cookie mine.items.gone mine.finished now.asked now.awaited now.asked_sections x.ask p) pops my_work
+    popping = its_work w now k n x at pops
 
     abbrev Runs : Ticket × ObjectId → Type 0
     Runs first = Owed (Ok (Change.Work n (with_core x (WorkerCore.Ran tickets first.0 (item_of first.1))) w.grace QueueAct.Pop (Some (record { object = first.1; life = Life.Reclaimed })) (one (Event.Run first.1))))
@@ -254,7 +251,7 @@ module _ {P : Type 0} {plans : Plans P} {layout : Layout} {slots : ℕ} {laws : 
       (λ e. counts WorkerCore.Idle refl (nil_from_length mine.items.ready (omega (arith, batch, ltb-false 1 tickets.left e)), batch.0, batch.2))
     where
       batch : (mine.items.waiting ≡ []) × (tickets.left ≡ length mine.items.ready + 1) × (mine.finished + 1 ≡ mine.items.gone) × (tickets.last.0 + 1 ≡ mine.items.gone + tickets.left)
-      batch = subst (λ (p : WorkerCore P Unit). WorkKept mine.items.ready mine.items.waiting mine.items.cookie mine.items.gone mine.finished now.asked now.awaited now.asked_sections x.ask p) ran my_work
+      batch = its_work w now k n x at ran
 
       counts : (p : WorkerCore P Unit) → worker_work x.ask p ≡ Rests → WorkAt (acted QueueAct.Finish mine) now.asked now.awaited now.asked_sections (with_core x p) → Owed (Ok (Change.Work n (with_core x p) w.grace QueueAct.Finish None Quiet))
       counts p rests works' = still (with_core x p) QueueAct.Finish (ap (worker_work x.ask) ran) rests
@@ -275,8 +272,8 @@ module _ {P : Type 0} {plans : Plans P} {layout : Layout} {slots : ℕ} {laws : 
   stays_calls ask p works' = quiet_step w now k n inside (acted QueueAct.Leave) (record { ask = ask; core = p }) (longer w.log []) refl refl (more_kept []) refl refl refl works'
 
   -- an ask is told, and its cookie noted
-  asked_calls : (ask c : ℕ) (tickets : Tickets) (grace : GraceState) → IsAllowed now (Event.Ask ask) → BatchAt tickets SyncCore.Asks → Calls ask tickets (record { core = SyncCore.Waits c; grace = grace; answer = one (Event.Ask ask) })
-  asked_calls ask c tickets grace allowed batch =
+  asked_calls : (ask c : ℕ) (tickets : Tickets) (grace : GraceState) → AwaitsOpen now → IsAllowed now (Event.Ask ask) → BatchAt tickets SyncCore.Asks → Calls ask tickets (record { core = SyncCore.Waits c; grace = grace; answer = one (Event.Ask ask) })
+  asked_calls ask c tickets grace opens allowed batch =
       let q : QueueKept mine (length (w.log ++ Event.Ask ask ∷ [])) now.awaited = more_kept (Event.Ask ask ∷ []) in
       quiet_step w (next_state now (Event.Ask ask)) (over_event w now k (Event.Ask ask) tt allowed) n inside (acted (QueueAct.Note c)) (record { ask = ask; core = WorkerCore.Syncs (SyncCore.Waits c) tickets }) (longer w.log (Event.Ask ask ∷ [])) refl refl
       (assumption q) refl refl refl (
@@ -286,7 +283,7 @@ module _ {P : Type 0} {plans : Plans P} {layout : Layout} {slots : ℕ} {laws : 
           some = batch.0.2;
           is_noted = refl;
           was_asked = inl refl;
-          covered = λ o h t g. subst (λ (l : List SectionId). In l t) (sym (at_number_same ask now.sections now.asked_sections)) (k.awaits_open o t g);
+          covered = λ o h t g. subst (λ (l : List SectionId). In l t) (sym (at_number_same ask now.sections now.asked_sections)) (opens o t g);
         },
         batch.1,
         batch.2,
@@ -322,22 +319,22 @@ module _ {P : Type 0} {plans : Plans P} {layout : Layout} {slots : ℕ} {laws : 
           (λ (r : Has mine.items.waiting o). empty_from (now.awaited o) (λ t g. subst (λ (l : List SectionId). In l t) none (b.covered o r t g)))
           (has_either mine.items.ready mine.items.waiting o h)
 
-  calls : (place : SyncCore P) (step : GraceStep P) (tickets : Tickets) → TurnRow plans w (Holder.Worker n) (ask_for w x.ask place) place (Ok step) → works (Working n) ≡ core_work (ask_for w x.ask place) place → BatchAt tickets place →
+  calls : (place : SyncCore P) (step : GraceStep P) (tickets : Tickets) → AwaitsOpen now → TurnRow plans w (Holder.Worker n) (ask_for w x.ask place) place (Ok step) → works (Working n) ≡ core_work (ask_for w x.ask place) place → BatchAt tickets place →
       AreAllowed now (told step.answer) → is_blocked step.answer ≡ false → is_waiting step.answer ≡ false → Calls (ask_for w x.ask place) tickets step
-  calls _ _ tickets (Asking c fits) does batch allowed goes on = asked_calls (w.grace.asks + 1) c tickets (record w.grace { asks = w.grace.asks + 1 }) allowed.0 batch
-  calls _ _ tickets (Blocking c other held) does batch allowed goes on = absurd (true≢false goes)
-  calls _ _ tickets (Standing from c p at') does batch allowed goes on = absurd (true≢false on)
-  calls _ _ tickets (Locking c free) does batch allowed goes on = stays_calls x.ask (WorkerCore.Syncs (SyncCore.Checks c) tickets) batch
-  calls _ _ tickets (Finding c up) does batch allowed goes on =
+  calls _ _ tickets opens (Asking c fits) does batch allowed goes on = asked_calls (w.grace.asks + 1) c tickets (record w.grace { asks = w.grace.asks + 1 }) opens allowed.0 batch
+  calls _ _ tickets opens (Blocking c other held) does batch allowed goes on = absurd (true≢false goes)
+  calls _ _ tickets opens (Standing from c p at') does batch allowed goes on = absurd (true≢false on)
+  calls _ _ tickets opens (Locking c free) does batch allowed goes on = stays_calls x.ask (WorkerCore.Syncs (SyncCore.Checks c) tickets) batch
+  calls _ _ tickets opens (Finding c up) does batch allowed goes on =
       let reached = leb-true c w.grace.seq up in answered_calls c tickets w.grace allowed.0 batch reached (reached_none kept (Working n) (Checks x.ask c) x.ask c does (refl, refl) reached)
-  calls _ _ tickets (Needing c low) does batch allowed goes on = stays_calls x.ask (WorkerCore.Syncs (SyncCore.Starts c) tickets) batch
-  calls _ _ tickets (Going _ _ _ (Begins c) turn more) does batch allowed goes on = stays_calls x.ask (WorkerCore.Syncs (SyncCore.Runs c _) tickets) batch
-  calls _ _ tickets (Going _ _ _ (GoesOn c p) turn more) does batch allowed goes on = stays_calls x.ask (WorkerCore.Syncs (SyncCore.Runs c _) tickets) batch
-  calls _ _ tickets (Ending _ _ _ (Begins c) done) does batch allowed goes on = absurd (begun_goes kept (Holder.Worker n) x.ask c does _ done)
-  calls _ _ tickets (Ending _ _ _ (GoesOn c p) done) does batch allowed goes on =
+  calls _ _ tickets opens (Needing c low) does batch allowed goes on = stays_calls x.ask (WorkerCore.Syncs (SyncCore.Starts c) tickets) batch
+  calls _ _ tickets opens (Going _ _ _ (Begins c) turn more) does batch allowed goes on = stays_calls x.ask (WorkerCore.Syncs (SyncCore.Runs c _) tickets) batch
+  calls _ _ tickets opens (Going _ _ _ (GoesOn c p) turn more) does batch allowed goes on = stays_calls x.ask (WorkerCore.Syncs (SyncCore.Runs c _) tickets) batch
+  calls _ _ tickets opens (Ending _ _ _ (Begins c) done) does batch allowed goes on = absurd (begun_goes kept (Holder.Worker n) x.ask c does _ done)
+  calls _ _ tickets opens (Ending _ _ _ (GoesOn c p) done) does batch allowed goes on =
       let e = ends kept (Holder.Worker n) x.ask c p does done in answered_calls c tickets (effect plans w p).grace allowed.0 batch e.1 e.0
-  calls _ _ tickets Freeing does batch allowed goes on = stays_calls x.ask (WorkerCore.Pops tickets) (batch.0.0, batch.0.1, batch.0.2, batch.1, batch.2)
-  calls _ _ tickets Resting does batch allowed goes on = absurd batch.0
+  calls _ _ tickets opens Freeing does batch allowed goes on = stays_calls x.ask (WorkerCore.Pops tickets) (batch.0.0, batch.0.1, batch.0.2, batch.1, batch.2)
+  calls _ _ tickets opens Resting does batch allowed goes on = absurd batch.0
 
   -- its ask is the next one, or the one that it made
   asks_work : (place : SyncCore P) → core_work x.ask place ≡ core_work {P = P} (ask_for w x.ask place) place
@@ -354,13 +351,13 @@ module _ {P : Type 0} {plans : Plans P} {layout : Layout} {slots : ℕ} {laws : 
   synced_work ask _ tickets = refl
 
   -- a step of a worker's grace period that neither waits nor is blocked
-  pub owes_batch : (place : SyncCore P) (tickets : Tickets) (step : GraceStep P) → x.core ≡ WorkerCore.Syncs place tickets → grace_row plans w (Holder.Worker n) (ask_for w x.ask place) place ≡ Ok step → is_blocked step.answer ≡ false → is_waiting step.answer ≡ false →
+  pub owes_batch : AwaitsOpen now → (place : SyncCore P) (tickets : Tickets) (step : GraceStep P) → x.core ≡ WorkerCore.Syncs place tickets → grace_row plans w (Holder.Worker n) (ask_for w x.ask place) place ≡ Ok step → is_blocked step.answer ≡ false → is_waiting step.answer ≡ false →
       Owed (Ok (work_change n (ask_for w x.ask place) tickets step))
-  owes_batch place tickets step syncs made goes on =
+  owes_batch opens place tickets step syncs made goes on =
       let ask : ℕ = ask_for w x.ask place in
       let x' : WorkerState P = record { ask = ask; core = synced step.core tickets } in
       let row : TurnRow plans w (Holder.Worker n) ask place (Ok step) = turn_of plans w (Holder.Worker n) ask place step made in
-      let batch : BatchAt tickets place = subst (λ (p : WorkerCore P Unit). WorkKept mine.items.ready mine.items.waiting mine.items.cookie mine.items.gone mine.finished now.asked now.awaited now.asked_sections x.ask p) syncs my_work in
+      let batch : BatchAt tickets place = its_work w now k n x at syncs in
       let stands : works (Working n) ≡ core_work ask place = work_is ∙ ap (worker_work x.ask) syncs ∙ asks_work place in
       let s : StepKept kept (Working n) (core_work ask step.core) step.grace step.answer = kept_turn kept (Holder.Worker n) ask place step stands (due_now place tickets batch) row goes on in (
         s.allowed,
@@ -368,5 +365,5 @@ module _ {P : Type 0} {plans : Plans P} {layout : Layout} {slots : ℕ} {laws : 
             kept_work kept n x' (acted_at queues n (worker_act step.grace.seq x'.core)) None step.grace (w.log ++ told step.answer) _ _ _ (longer w.log (told step.answer)) s.rises s.phase_low s.seq_low s.asks_low
             (s.part _ (subst (λ (v : Work P). Sets works (work_of w.updaters (slice_set w.workers n x')) (Working n) v) (synced_work ask step.core tickets) (worker_set kept n x' inside)))
             ),
-        calls place step tickets row stands batch s.allowed goes on,
+        calls place step tickets opens row stands batch s.allowed goes on,
       )

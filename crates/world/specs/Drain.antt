@@ -15,7 +15,6 @@ use Rattle.world_state.specs.declared.worker.WorkerState.{WorkerState}
 use Rattle.world_state.specs.Readers.{is_open_in}
 use Rattle.world_state.specs.View.{Plans, BoardView}
 use Rattle.world.specs.Lines.{outcome_of, world_after}
-use Rattle.world_kept.specs.Kept.{PartOf, Working}
 use Rattle.world.specs.Steps.{WorldView, OfMemb, OfQsbr, memb_plans, qsbr_plans, step_of, world_after_lines, log_of, IsMade}
 use Rattle.world.specs.Workers.{is_none_left, is_resting}
 
@@ -63,11 +62,6 @@ module _ {P : Type 0} where
   -- the number of steps, or why there are none
   abbrev pub steps_to_drain : Bool → BoardView P → ℕ → Result ℕ Refusal
   steps_to_drain qsbr w k = steps_with qsbr (length w.readers) (items_to_drain qsbr w k)
-
-  -- a worker's change
-  abbrev pub IsWork : Result (Change P) Refusal → Type 0
-  IsWork (Ok change) = PartOf Working change
-  IsWork (Err e) = ⊥
 
   abbrev pub Rests : Option (WorkerState P) → Type 0
   Rests None = ⊥

@@ -1,5 +1,5 @@
 -- The world as the step table sees it.
-use Rattle.std.specs.Prelude.{◌≡◌, ◌≢◌, ◌⊎◌, ◌≤◌, ◌<◌, ◌^◌, ◌%◌, ℕ, true, Result, Ok, Err, length, slice_get, Some}
+use Rattle.std.specs.Prelude.{◌≡◌, ◌≢◌, ◌⊎◌, ◌≤◌, ◌<◌, ◌^◌, ◌%◌, ℕ, true, Result, Ok, Err, OnErr, length, slice_get, Some}
 use Rattle.rcu_model.specs.declared.refusal.Refusal.{Refusal}
 use Rattle.rcu_model.specs.declared.refusal.Refusal.TheVariants.{Memory}
 use Rattle.world_state.specs.declared.line.Answer.{Answer}
@@ -49,6 +49,10 @@ LoadsNoGroup step = (group : ℕ) → step ≢ Plan (LoadGroup group)
 abbrev pub Meets : {P : Type 0} → Outcome P → BoardView P → BoardView P → Result Answer Refusal → Type 0
 Meets outcome old new (Ok a) = (outcome.answer ≡ Ok a) × (new ≡ outcome.world)
 Meets outcome old new (Err e) = (new ≡ old) × (((outcome.answer ≡ Err e) × (outcome.world ≡ old)) ⊎ ((e ≡ Memory) × Grows old outcome.world))
+
+-- where the log has this much room, and all that is told fits, no memory is refused
+abbrev pub IsRefusedByTable : {P : Type 0} → ℕ → Outcome P → BoardView P → Result Answer Refusal → Type 0
+IsRefusedByTable room outcome old result = length outcome.world.log ≤ room → OnErr result (outcome.world ≡ old)
 
 -- there are queues, at most eight
 pub record HasQueues {P : Type 0} (w : BoardView P) : Type 0 where

@@ -109,16 +109,3 @@ module _ {P : Type 0} where
   is_resting (worker.Runs tickets ticket item) = false
   is_resting (worker.Ran tickets ticket item) = false
   is_resting (worker.Counts tickets ticket) = false
-
-  -- it waits for a grace period
-  abbrev pub is_in_grace : WorkerCore P Unit → Bool
-  is_in_grace worker.Idle = false
-  is_in_grace (worker.Syncs sync tickets) = true
-  is_in_grace (worker.Pops tickets) = false
-  is_in_grace (worker.Runs tickets ticket item) = false
-  is_in_grace (worker.Ran tickets ticket item) = false
-  is_in_grace (worker.Counts tickets ticket) = false
-
-  abbrev pub is_syncing : Option (WorkerState P) → Bool
-  is_syncing None = false
-  is_syncing (Some x) = is_in_grace x.core

@@ -8,7 +8,8 @@ use rcu_model::{Event, Refusal};
 use std::alloc::Global;
 use world_kept::Kept;
 use world_state::{
-    Answer, Change, Config, Line, ReaderStep, ReaderVerb, StepError, WorkerVerb, WorldPlan,
+    Answer, Change, Config, Line, ReaderStep, ReaderVerb, StepError, UpdaterVerb, WorkerVerb,
+    WorldPlan,
 };
 
 /// What is kept, and the steps that change it.
@@ -33,7 +34,7 @@ pub(crate) fn entry<T>(items: &[T], place: usize) -> Option<&T>
 
 impl<P: WorldPlan + Drop> Board<P> {
     ghost use Rattle.world_state.specs.View.{fresh_at, plans_of};
-    ghost use Rattle.world_state.specs.declared.line.Line.TheVariants.{Reader as ReaderLine};
+    ghost use Rattle.world_state.specs.declared.line.Line.TheVariants.{Reader as ReaderLine, Updater as UpdaterLine};
     ghost use Rattle.world.specs.Lines.{change_of, outcome_of};
     ghost use Rattle.world.specs.Row.{read_step};
     ghost use Rattle.world.specs.Shown.{shown, Meets, IsInRange};
@@ -55,18 +56,14 @@ impl<P: WorldPlan + Drop> Board<P> {
         ensures { Meets (outcome_of (plans_of P.QSBR P.made P.action P.turn P.taken) (shown self.old) line.now) (shown self.old) (shown self.new) result }
     {
         match *line {
-            Line::Reader(reader, verb) => return self.read(reader, verb),
-            Line::Worker(worker, WorkerVerb::GoOn) if self.is_syncing(worker) => {
-                return self.go_on_syncing(worker);
-            }
-            _ => {}
+            Line::Reader(reader, verb) => self.read(reader, verb),
+            Line::Updater(updater, verb) => self.update(updater, verb),
+            Line::Worker(worker, WorkerVerb::Take) => self.take(worker),
+            Line::Worker(worker, WorkerVerb::GoOn) => self.work_on(worker),
         }
-        let change = self.change(line)?;
-        self.kept.commit(change)
     }
 
-    /// A line of a reader, made at once: a `Change` is as large as what an updater or a worker changes, and would be
-    /// moved.
+    /// A line of a reader, made at once: a `Change` is as large as what an updater changes, and would be moved.
     fn read(&mut self, reader: u32, verb: ReaderVerb) -> Result<Answer, StepError>
         requires { IsInRange (plans_of P.QSBR P.made P.action P.turn P.taken) (shown self.old) }
         ensures { Meets (outcome_of (plans_of P.QSBR P.made P.action P.turn P.taken) (shown self.old) (ReaderLine reader verb)) (shown self.old) (shown self.new) result }
@@ -86,35 +83,30 @@ impl<P: WorldPlan + Drop> Board<P> {
         self.reader_line(reader, state, verb)
     }
 
+    /// A line of an updater.
+    fn update(&mut self, updater: u32, verb: UpdaterVerb) -> Result<Answer, StepError>
+        requires { IsInRange (plans_of P.QSBR P.made P.action P.turn P.taken) (shown self.old) }
+        ensures { Meets (outcome_of (plans_of P.QSBR P.made P.action P.turn P.taken) (shown self.old) (UpdaterLine updater verb)) (shown self.old) (shown self.new) result }
+    {
+        let change = self.updater_change(updater, verb)?;
+        self.kept.commit(change)
+    }
+
+    /// What a line of an updater makes of the world, or why it is refused.
+    fn updater_change(&self, updater: u32, verb: UpdaterVerb) -> Result<Change<P>, Refusal>
+        requires { IsInRange (plans_of P.QSBR P.made P.action P.turn P.taken) (shown self.now) }
+        ensures { result ≡ change_of (plans_of P.QSBR P.made P.action P.turn P.taken) (shown self.now) (UpdaterLine updater verb) }
+    {
+        let Some(state) = at(&self.kept.updaters, updater as usize) else {
+            return Err(Refusal::NoActor);
+        };
+        self.updater_line(updater, state, verb)
+    }
+
     /// What the steps told.
     pub fn log(&self) -> &[Event]
         ensures { result.now ≡ (shown self.now).log }
     {
         &self.kept.log
-    }
-
-    /// What a line makes of the world, or why it is refused: `NoActor`, or as its actor's row says.
-    pub(crate) fn change(&self, line: &Line) -> Result<Change<P>, Refusal>
-        requires { IsInRange (plans_of P.QSBR P.made P.action P.turn P.taken) (shown self.now) }
-        ensures { result ≡ change_of (plans_of P.QSBR P.made P.action P.turn P.taken) (shown self.now) line.now }
-    {
-        match *line {
-            Line::Reader(reader, verb) => {
-                let step = self.reader_step(reader, verb)?;
-                Ok(Change::Read { reader, step })
-            }
-            Line::Updater(updater, verb) => {
-                let Some(state) = at(&self.kept.updaters, updater as usize) else {
-                    return Err(Refusal::NoActor);
-                };
-                self.updater_line(updater, state, verb)
-            }
-            Line::Worker(worker, verb) => {
-                let Some(state) = at(&self.kept.workers, worker as usize) else {
-                    return Err(Refusal::NoActor);
-                };
-                self.worker_line(worker, state, verb)
-            }
-        }
     }
 }

@@ -1,7 +1,6 @@
 //! A drain: one worker alone, until its batch is counted.
 
-ghost use Rattle.std.specs.Prelude.{◌≡◌, ◌≤◌, ◌<◌, ◌^◌, length, vec_capacity};
-ghost use Rattle.world_state.specs.declared.line.Line.TheVariants.{Worker as WorkerLine};
+ghost use Rattle.std.specs.Prelude.{◌≡◌, ◌≤◌, ◌<◌, ◌^◌, length};
 ghost use Rattle.world_state.specs.View.{BoardView, plans_of};
 ghost use Rattle.world.specs.Reached.{IsReached};
 ghost use Rattle.world.specs.Drain.{IsSettled};
@@ -10,7 +9,7 @@ use crate::board::{Board, at, entry};
 use crate::laws::{numbers_stay_in_range, plan_keeps_its_laws};
 use call_rcu_worker::WorkerCore;
 use rcu_model::Refusal;
-use world_state::{Line, QueueState, StepError, WorkerState, WorkerVerb, WorldPlan};
+use world_state::{QueueState, StepError, WorkerState, WorldPlan};
 
 /// From here on no grace period can be asked for: 2^62.
 const END_OF_NUMBERS: u64 = 1 << 62;
@@ -23,9 +22,8 @@ fn workers_rest<P: WorldPlan>()
 }
 
 impl<P: WorldPlan + Drop> Board<P> {
-    ghost use Rattle.world.specs.Lines.{change_of, outcome_of};
-    ghost use Rattle.world.specs.Shown.{shown, IsInRange};
-    ghost use Rattle.world.specs.Drain.{some_open, is_busy, steps_for, items_to_drain, Drains, IsWork};
+    ghost use Rattle.world.specs.Shown.{shown};
+    ghost use Rattle.world.specs.Drain.{some_open, is_busy, steps_for, items_to_drain, Drains};
 
     /// Steps one worker alone from its `take` until its batch is counted, and answers the number of steps.
     pub fn drain(&mut self, worker: u32) -> Result<u64, StepError>
@@ -39,14 +37,14 @@ impl<P: WorldPlan + Drop> Board<P> {
             return Ok(0);
         }
         // The log has room for the ask, its answer, and a run of each item, or it is refused; no memory has 2^62
-        // events.
+        // events. So no step is refused after that.
         if items >= END_OF_NUMBERS || self.kept.log.reserve(items as usize + 2).is_err() {
             return Err(Refusal::Memory);
         }
         let steps = self.steps_for(items);
-        self.work(worker, WorkerVerb::Take);
+        let _ = self.take(worker);
         for _ in 1..steps {
-            self.work(worker, WorkerVerb::GoOn);
+            let _ = self.work_on(worker);
         }
         Ok(steps)
     }
@@ -111,19 +109,6 @@ impl<P: WorldPlan + Drop> Board<P> {
             readers + 8 + 2 * items
         } else {
             2 * readers + 9 + 2 * items
-        }
-    }
-
-    /// A step of a worker that changes something, for whose events the log has room.
-    fn work(&mut self, worker: u32, verb: WorkerVerb)
-        requires range { IsInRange (plans_of P.QSBR P.made P.action P.turn P.taken) (shown self.old) }
-        requires work { IsWork (change_of (plans_of P.QSBR P.made P.action P.turn P.taken) (shown self.old) (WorkerLine worker verb)) }
-        requires room { length (outcome_of (plans_of P.QSBR P.made P.action P.turn P.taken) (shown self.old) (WorkerLine worker verb)).world.log ≤ vec_capacity self.old.kept.log }
-        ensures world { shown self.new ≡ (outcome_of (plans_of P.QSBR P.made P.action P.turn P.taken) (shown self.old) (WorkerLine worker verb)).world }
-        ensures room { vec_capacity self.new.kept.log ≡ vec_capacity self.old.kept.log }
-    {
-        if let Ok(change) = self.change(&Line::Worker(worker, verb)) {
-            self.kept.commit_work(change);
         }
     }
 }

@@ -1,25 +1,14 @@
 //! Who holds the locks.
 
-ghost use Rattle.std.specs.Prelude.{◌≡◌, ◌≤◌, ◌%◌, ◌^◌, ℕ, List, IsTrue};
+ghost use Rattle.std.specs.Prelude.{ℕ, List, IsTrue};
 ghost use Rattle.world_state.specs.declared.config.Config.{Config};
 ghost use Rattle.world_state.specs.declared.line.Line.{Line};
-ghost use Rattle.world_state.specs.Limits.{is_within_limits};
-ghost use Rattle.world_state.specs.View.{fresh_at, plans_of};
-ghost use Rattle.world.specs.Lines.{world_after};
-ghost use Rattle.world.specs.Locks.{AreHeldInside, LocksAreHeldInside};
+ghost use Rattle.world.specs.Locks.{LocksAreHeldInside};
 ghost use Rattle.world.specs.Steps.{is_supported_at, fresh_world_at, world_after_lines};
 
 use crate::laws::plan_keeps_its_laws;
 use gp_memb::MembPlan;
 use gp_qsbr::QsbrPlan;
-use world_state::WorldPlan;
-
-/// The locks of a board are held by just those who are inside.
-pub(crate) fn board_locks_are_held_by_those_inside<P: WorldPlan>()
-    ensures { (config : Config) (seq : ℕ) (lines : List Line) → IsTrue (is_within_limits config) → seq % 2 ≡ 0 → seq ≤ 2 ^ 62 → AreHeldInside (world_after (plans_of P.QSBR P.made P.action P.turn P.taken) (fresh_at config seq) lines) }
-{
-    plan_keeps_its_laws::<P>();
-}
 
 /// For every config and first sequence number that make a world, and all lines: the grace lock is held by an updater or
 /// worker exactly while its grace period stands between the step that locks and the one that unlocks, and a queue's
@@ -28,6 +17,6 @@ pub(crate) fn board_locks_are_held_by_those_inside<P: WorldPlan>()
 pub fn locks_are_held_by_those_inside()
     ensures { (config : Config) (seq : ℕ) (lines : List Line) → IsTrue (is_supported_at config seq) → LocksAreHeldInside (world_after_lines (fresh_world_at config seq) lines) }
 {
-    board_locks_are_held_by_those_inside::<MembPlan>();
-    board_locks_are_held_by_those_inside::<QsbrPlan>();
+    plan_keeps_its_laws::<MembPlan>();
+    plan_keeps_its_laws::<QsbrPlan>();
 }

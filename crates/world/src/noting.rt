@@ -3,26 +3,18 @@
 ghost use Rattle.std.specs.Prelude.{◌≡◌, ℕ, List, IsTrue};
 ghost use Rattle.world_state.specs.declared.config.Config.{Config};
 ghost use Rattle.world_state.specs.declared.line.Line.{Line};
-ghost use Rattle.world_state.specs.View.{fresh_at, plans_of};
-ghost use Rattle.world.specs.Lines.{world_after};
 ghost use Rattle.reader_word.specs.declared.layout.Layout.{Layout};
 ghost use Rattle.world_state.specs.declared.config.Flavour.TheVariants.{Qsbr};
 ghost use Rattle.world.specs.Layouts.{answers_to, laid_out};
 ghost use Rattle.world.specs.Checks.{AnswersByItsCookie};
 ghost use Rattle.world.specs.Loads.{ReadersStoreWhatTheyLoaded};
 ghost use Rattle.world.specs.Retiring.{RetirementsGoInOrder};
-ghost use Rattle.world.specs.Notes.{AreNoted, NotesAreOfTheLatest, replies_to, replies_of};
+ghost use Rattle.world.specs.Notes.{NotesAreOfTheLatest, replies_of};
 ghost use Rattle.world.specs.Steps.{WorldView, is_supported_at, fresh_world_at, world_after_lines};
 
 use crate::laws::numbers_stay_in_range;
 use gp_memb::MembPlan;
 use gp_qsbr::QsbrPlan;
-use world_state::WorldPlan;
-
-/// What a board's readers and updaters note is what their latest lines were answered.
-pub(crate) fn board_notes_are_of_the_latest_line<P: WorldPlan>()
-    ensures { (config : Config) (seq : ℕ) (lines : List Line) → AreNoted (world_after (plans_of P.QSBR P.made P.action P.turn P.taken) (fresh_at config seq) lines) (replies_to (plans_of P.QSBR P.made P.action P.turn P.taken) (fresh_at config seq) lines) }
-{}
 
 /// For every config and first sequence number that make a world, and all lines: a reader stands on the object that it
 /// got last in the section that is open, if it got one there, and on none where no section is open; each `next` goes on
@@ -31,10 +23,7 @@ pub(crate) fn board_notes_are_of_the_latest_line<P: WorldPlan>()
 /// before; what a `poll` answers is the ask of that `start`.
 pub fn notes_are_of_the_latest_line()
     ensures { (config : Config) (seq : ℕ) (lines : List Line) → IsTrue (is_supported_at config seq) → NotesAreOfTheLatest (world_after_lines (fresh_world_at config seq) lines) (replies_of (fresh_world_at config seq) lines) }
-{
-    board_notes_are_of_the_latest_line::<MembPlan>();
-    board_notes_are_of_the_latest_line::<QsbrPlan>();
-}
+{}
 
 /// For every config and first sequence number, and all lines: the word of each section is made of the phase or number
 /// that was present at its reader's last line before the one that opened it (refused lines aside), and not of what is

@@ -1,26 +1,15 @@
 //! How large the numbers in logs are, and in which order they are given.
 
-ghost use Rattle.std.specs.Prelude.{◌≡◌, ◌≤◌, ◌%◌, ◌*◌, ◌^◌, ℕ, List, length, All, IsTrue};
+ghost use Rattle.std.specs.Prelude.{◌*◌, ℕ, List, length, All, IsTrue};
 ghost use Rattle.world_state.specs.declared.config.Config.{Config};
 ghost use Rattle.world_state.specs.declared.line.Line.{Line};
-ghost use Rattle.world_state.specs.Limits.{is_within_limits};
-ghost use Rattle.world_state.specs.View.{fresh_at, plans_of};
-ghost use Rattle.world.specs.Given.{IsCounted, AreGivenOnce, ObjectsAreGivenOnce};
-ghost use Rattle.world.specs.Lines.{world_after};
+ghost use Rattle.world.specs.Given.{IsCounted, ObjectsAreGivenOnce};
 ghost use Rattle.world.specs.Numbering.{IsNumberedWithin};
 ghost use Rattle.world.specs.Steps.{is_supported_at, fresh_world_at, world_after_lines, answered_events};
 
-use crate::laws::{every_schedule_reclaims_safely, plan_keeps_its_laws};
+use crate::laws::plan_keeps_its_laws;
 use gp_memb::MembPlan;
 use gp_qsbr::QsbrPlan;
-use world_state::WorldPlan;
-
-/// The numbers that the log of a board gives are at most twice the number of the lines that led to it.
-pub(crate) fn board_numbers_count_lines<P: WorldPlan>()
-    ensures { (config : Config) (seq : ℕ) (lines : List Line) → IsTrue (is_within_limits config) → seq % 2 ≡ 0 → seq ≤ 2 ^ 62 → All (IsNumberedWithin (2 * length lines)) (world_after (plans_of P.QSBR P.made P.action P.turn P.taken) (fresh_at config seq) lines).log }
-{
-    plan_keeps_its_laws::<P>();
-}
 
 /// For every config and first sequence number that make a world, and all lines, no event of the answers gives a large
 /// number: readers and chains are below 64 and queues below 8, and ordinals, objects, asks and barriers are at most
@@ -28,16 +17,8 @@ pub(crate) fn board_numbers_count_lines<P: WorldPlan>()
 pub fn numbers_count_lines()
     ensures { (config : Config) (seq : ℕ) (lines : List Line) → IsTrue (is_supported_at config seq) → All (IsNumberedWithin (2 * length lines)) (answered_events (fresh_world_at config seq) lines) }
 {
-    board_numbers_count_lines::<MembPlan>();
-    board_numbers_count_lines::<QsbrPlan>();
-    every_schedule_reclaims_safely();
-}
-
-/// A board numbers sections, asks and barriers as they begin, and gives each number of an object once.
-pub(crate) fn board_gives_numbers_in_order<P: WorldPlan>()
-    ensures { (config : Config) (seq : ℕ) (lines : List Line) → IsTrue (is_within_limits config) → seq % 2 ≡ 0 → seq ≤ 2 ^ 62 → IsCounted (world_after (plans_of P.QSBR P.made P.action P.turn P.taken) (fresh_at config seq) lines).log × AreGivenOnce (world_after (plans_of P.QSBR P.made P.action P.turn P.taken) (fresh_at config seq) lines) }
-{
-    plan_keeps_its_laws::<P>();
+    plan_keeps_its_laws::<MembPlan>();
+    plan_keeps_its_laws::<QsbrPlan>();
 }
 
 /// For every config and first sequence number that make a world, and all lines: in the events of the answers the
@@ -49,7 +30,6 @@ pub fn numbers_are_given_in_order()
     ensures counted { (config : Config) (seq : ℕ) (lines : List Line) → IsTrue (is_supported_at config seq) → IsCounted (answered_events (fresh_world_at config seq) lines) }
     ensures objects { (config : Config) (seq : ℕ) (lines : List Line) → IsTrue (is_supported_at config seq) → ObjectsAreGivenOnce (world_after_lines (fresh_world_at config seq) lines) }
 {
-    board_gives_numbers_in_order::<MembPlan>();
-    board_gives_numbers_in_order::<QsbrPlan>();
-    every_schedule_reclaims_safely();
+    plan_keeps_its_laws::<MembPlan>();
+    plan_keeps_its_laws::<QsbrPlan>();
 }

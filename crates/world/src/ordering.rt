@@ -1,25 +1,14 @@
 //! In which order callbacks run.
 
-ghost use Rattle.std.specs.Prelude.{◌≡◌, ◌≤◌, ◌%◌, ◌^◌, ℕ, List, IsTrue};
+ghost use Rattle.std.specs.Prelude.{ℕ, List, IsTrue};
 ghost use Rattle.world_state.specs.declared.config.Config.{Config};
 ghost use Rattle.world_state.specs.declared.line.Line.{Line};
-ghost use Rattle.world_state.specs.Limits.{is_within_limits};
-ghost use Rattle.world_state.specs.View.{fresh_at, plans_of};
-ghost use Rattle.world.specs.Lines.{world_after};
 ghost use Rattle.world.specs.RunOrder.{RunInOrder};
 ghost use Rattle.world.specs.Steps.{is_supported_at, fresh_world_at, answered_events};
 
-use crate::laws::{every_schedule_reclaims_safely, plan_keeps_its_laws};
+use crate::laws::plan_keeps_its_laws;
 use gp_memb::MembPlan;
 use gp_qsbr::QsbrPlan;
-use world_state::WorldPlan;
-
-/// In the log of a board, the callbacks of each queue run in the order in which their objects were queued.
-pub(crate) fn board_callbacks_run_in_order<P: WorldPlan>()
-    ensures { (config : Config) (seq : ℕ) (lines : List Line) → IsTrue (is_within_limits config) → seq % 2 ≡ 0 → seq ≤ 2 ^ 62 → RunInOrder (world_after (plans_of P.QSBR P.made P.action P.turn P.taken) (fresh_at config seq) lines).log }
-{
-    plan_keeps_its_laws::<P>();
-}
 
 /// For every config and first sequence number that make a world, and all lines: in the events of the answers, which are
 /// a run of the machine, the callbacks of each queue run in the order in which their objects were queued, and none is
@@ -28,7 +17,6 @@ pub(crate) fn board_callbacks_run_in_order<P: WorldPlan>()
 pub fn callbacks_run_in_the_order_of_their_queue()
     ensures { (config : Config) (seq : ℕ) (lines : List Line) → IsTrue (is_supported_at config seq) → RunInOrder (answered_events (fresh_world_at config seq) lines) }
 {
-    board_callbacks_run_in_order::<MembPlan>();
-    board_callbacks_run_in_order::<QsbrPlan>();
-    every_schedule_reclaims_safely();
+    plan_keeps_its_laws::<MembPlan>();
+    plan_keeps_its_laws::<QsbrPlan>();
 }

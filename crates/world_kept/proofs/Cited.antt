@@ -7,7 +7,7 @@ pub use Rattle.std.proofs.lemmas.Option.{slice_get-get_or, slice_get_within}
 pub use Rattle.world_state.specs.Objects.{spliced_heads, spliced_objects}
 pub use Rattle.world_state.specs.Queues.{NeedsPlace, changed_at, empty_queue_state, held_at, held_by, new_worker}
 pub use Rattle.world_state.specs.View.{BoardView, changed, idle}
-pub use Rattle.world_state.specs.declared.change.Change.{Change}
+pub use Rattle.world_state.specs.declared.change.Change.TheVariants.{Hold}
 pub use Rattle.world_state.specs.declared.queue.QueueState.{QueueState}
 pub use Rattle.world_state.specs.declared.updater.Started.{Started}
 pub use Rattle.world_state.specs.declared.updater.UpdaterPlace.{UpdaterPlace}

@@ -47,26 +47,3 @@ MayMake w (Retire u x q act mark answer) = MayActAt act (slice_get w.queues q)
 MayMake w (Bar u x barriers answer) = Unit {0}
 MayMake w (Work k x grace act mark answer) = MayActAt act (slice_get w.queues k)
 MayMake w (Stay answer) = Unit {0}
-
--- who makes the change
-pub data Part : Type 0 where
-  Reading : Part
-  Publishing : Part
-  Waiting : Part
-  Retiring : Part
-  Working : Part
-  Nobody : Part
-
-abbrev pub part_of : {P : Type 0} → Change P → Part
-part_of (Read r step) = Reading
-part_of (Begin u x object) = Publishing
-part_of (Publish u x splice event) = Publishing
-part_of (Grace u x grace answer) = Waiting
-part_of (Hold u x q) = Retiring
-part_of (Retire u x q act mark answer) = Retiring
-part_of (Bar u x barriers answer) = Waiting
-part_of (Work k x grace act mark answer) = Working
-part_of (Stay answer) = Nobody
-
-abbrev pub PartOf : {P : Type 0} → Part → Change P → Type 0
-PartOf part change = part_of change ≡ part

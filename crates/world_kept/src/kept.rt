@@ -1,6 +1,6 @@
 //! What is kept between two lines of a schedule, and how a change of it is made.
 
-ghost use Rattle.std.specs.Prelude.{◌≡◌, ◌<◌, ◌≤◌, ◌++◌, length, slice_get, slice_set, replicate, vec_capacity, OnOk, OnErr, IfOk, IfErr};
+ghost use Rattle.std.specs.Prelude.{◌≡◌, ◌<◌, ◌≤◌, ◌++◌, length, slice_get, slice_set, replicate, vec_capacity, None, IsOk, OnOk, OnErr, IfOk, IfErr};
 ghost use Rattle.rcu_model.specs.declared.refusal.Refusal.TheVariants as refusal;
 ghost use Rattle.world_state.specs.Queues.{empty_queue_state};
 
@@ -38,11 +38,12 @@ pub struct Kept<P> {
 }
 
 impl<P: WorldPlan + Drop> Kept<P> {
-    ghost use Rattle.world_state.specs.declared.change.Change.TheVariants.{Read};
+    ghost use Rattle.world_state.specs.declared.change.Change.TheVariants.{Read, Begin, Publish, Grace, Hold, Retire, Bar, Work};
+    ghost use Rattle.world_state.specs.declared.line.Answer.TheVariants.{Events, Quiet};
     ghost use Rattle.world_state.specs.View.{fresh_at, changed, answer_of, told};
     ghost use Rattle.world_state.specs.Objects.{spliced_heads, spliced_objects, marked_life};
     ghost use Rattle.world_state.specs.Queues.{acted_at, MayActAt};
-    ghost use Rattle.world_kept.specs.Kept.{shown, Grows, MayMake, PartOf, Publishing, Waiting, Retiring, Working};
+    ghost use Rattle.world_kept.specs.Kept.{shown, Grows, MayMake};
 
     /// What is kept before the first line. `Memory` where that was refused.
     pub fn new(alloc: Global, config: Config, seq: u64) -> Result<Kept<P>, Refusal>
@@ -95,10 +96,50 @@ impl<P: WorldPlan + Drop> Kept<P> {
     {
         match change {
             Change::Read { reader, step } => self.read(reader, step),
-            Change::Begin { .. } | Change::Publish { .. } => self.commit_publishing(change),
-            Change::Grace { .. } | Change::Bar { .. } => self.commit_waiting(change),
-            Change::Hold { .. } | Change::Retire { .. } => self.commit_retirement(change),
-            Change::Work { .. } => self.commit_worker(change),
+            Change::Begin {
+                updater,
+                state,
+                object,
+            } => self.begin(updater, state, object),
+            Change::Publish {
+                updater,
+                state,
+                splice,
+                event,
+            } => self.publish(updater, state, splice, event),
+            Change::Grace {
+                updater,
+                state,
+                grace,
+                answer,
+            } => self.go_through(updater, state, grace, answer),
+            Change::Hold {
+                updater,
+                state,
+                queue,
+            } => self.hold(updater, state, queue),
+            Change::Retire {
+                updater,
+                state,
+                queue,
+                act,
+                mark,
+                answer,
+            } => self.retire(updater, state, queue, act, mark, answer),
+            Change::Bar {
+                updater,
+                state,
+                barriers,
+                answer,
+            } => self.bar(updater, state, barriers, answer),
+            Change::Work {
+                worker,
+                state,
+                grace,
+                act,
+                mark,
+                answer,
+            } => self.work(worker, state, grace, act, mark, answer),
             Change::Stay(answer) => Ok(answer),
         }
     }
@@ -116,151 +157,168 @@ impl<P: WorldPlan + Drop> Kept<P> {
         Ok(step.answer)
     }
 
-    /// A change of one who publishes; any other changes nothing.
-    fn commit_publishing(&mut self, change: Change<P>) -> Result<Answer, StepError>
-        ensures ok { PartOf Publishing change → OnOk result (shown self.new ≡ changed (shown self.old) change) }
-        ensures answer { PartOf Publishing change → IfOk result (λ a. a ≡ answer_of change) }
-        ensures err { PartOf Publishing change → OnErr result (shown self.new ≡ shown self.old) }
-        ensures memory { PartOf Publishing change → IfErr result (λ e. (e ≡ refusal.Memory) × Grows (shown self.old) (changed (shown self.old) change)) }
+    /// An updater begins to publish an object.
+    fn begin(
+        &mut self,
+        updater: u32,
+        state: UpdaterState<P>,
+        object: ObjectState,
+    ) -> Result<Answer, StepError>
+        ensures ok { OnOk result (shown self.new ≡ changed (shown self.old) (Begin updater state object)) }
+        ensures answer { IfOk result (λ a. a ≡ Quiet) }
+        ensures err { OnErr result (shown self.new ≡ shown self.old) }
+        ensures memory { IfErr result (λ e. (e ≡ refusal.Memory) × Grows (shown self.old) (changed (shown self.old) (Begin updater state object))) }
     {
-        match change {
-            Change::Begin {
-                updater,
-                state,
-                object,
-            } => {
-                if self.objects.push(object).is_err() {
-                    return Err(Refusal::Memory);
-                }
-                put(&mut self.updaters, updater as usize, state);
-                Ok(Answer::Quiet)
-            }
-            Change::Publish {
-                updater,
-                state,
-                splice,
-                event,
-            } => {
-                let answer = Answer::Events {
-                    first: event,
-                    second: None,
-                };
-                self.tell(answer)?;
-                self.publish_now(updater, state, splice);
-                Ok(answer)
-            }
-            _ => Ok(Answer::Quiet),
+        if self.objects.push(object).is_err() {
+            return Err(Refusal::Memory);
         }
+        put(&mut self.updaters, updater as usize, state);
+        Ok(Answer::Quiet)
     }
 
-    /// A change of one who waits for a grace period or a barrier; any other changes nothing.
-    fn commit_waiting(&mut self, change: Change<P>) -> Result<Answer, StepError>
-        ensures ok { PartOf Waiting change → OnOk result (shown self.new ≡ changed (shown self.old) change) }
-        ensures answer { PartOf Waiting change → IfOk result (λ a. a ≡ answer_of change) }
-        ensures err { PartOf Waiting change → OnErr result (shown self.new ≡ shown self.old) }
-        ensures memory { PartOf Waiting change → IfErr result (λ e. (e ≡ refusal.Memory) × Grows (shown self.old) (changed (shown self.old) change)) }
+    /// An updater's store into a chain.
+    fn publish(
+        &mut self,
+        updater: u32,
+        state: UpdaterState<P>,
+        splice: Splice,
+        event: Event,
+    ) -> Result<Answer, StepError>
+        ensures ok { OnOk result (shown self.new ≡ changed (shown self.old) (Publish updater state splice event)) }
+        ensures answer { IfOk result (λ a. a ≡ Events event None) }
+        ensures err { OnErr result (shown self.new ≡ shown self.old) }
+        ensures memory { IfErr result (λ e. (e ≡ refusal.Memory) × Grows (shown self.old) (changed (shown self.old) (Publish updater state splice event))) }
     {
-        match change {
-            Change::Grace {
-                updater,
-                state,
-                grace,
-                answer,
-            } => {
-                self.tell(answer)?;
-                put(&mut self.updaters, updater as usize, state);
-                self.grace = grace;
-                Ok(answer)
-            }
-            Change::Bar {
-                updater,
-                state,
-                barriers,
-                answer,
-            } => {
-                self.tell(answer)?;
-                put(&mut self.updaters, updater as usize, state);
-                self.barriers = barriers;
-                Ok(answer)
-            }
-            _ => Ok(Answer::Quiet),
-        }
-    }
-
-    /// A change of one who retires; any other changes nothing.
-    fn commit_retirement(&mut self, change: Change<P>) -> Result<Answer, StepError>
-        requires { MayMake (shown self.old) change }
-        ensures ok { PartOf Retiring change → OnOk result (shown self.new ≡ changed (shown self.old) change) }
-        ensures answer { PartOf Retiring change → IfOk result (λ a. a ≡ answer_of change) }
-        ensures err { PartOf Retiring change → OnErr result (shown self.new ≡ shown self.old) }
-        ensures memory { PartOf Retiring change → IfErr result (λ e. (e ≡ refusal.Memory) × Grows (shown self.old) (changed (shown self.old) change)) }
-    {
-        match change {
-            Change::Hold {
-                updater,
-                state,
-                queue,
-            } => {
-                hold_queue(&mut self.queues, queue as usize, updater)?;
-                put(&mut self.updaters, updater as usize, state);
-                Ok(Answer::Quiet)
-            }
-            Change::Retire {
-                updater,
-                state,
-                queue,
-                act,
-                mark,
-                answer,
-            } => {
-                self.tell(answer)?;
-                self.act_now(queue, act, mark);
-                put(&mut self.updaters, updater as usize, state);
-                Ok(answer)
-            }
-            _ => Ok(Answer::Quiet),
-        }
-    }
-
-    /// A change of a worker; any other changes nothing.
-    fn commit_worker(&mut self, change: Change<P>) -> Result<Answer, StepError>
-        requires { MayMake (shown self.old) change }
-        ensures ok { PartOf Working change → OnOk result (shown self.new ≡ changed (shown self.old) change) }
-        ensures answer { PartOf Working change → IfOk result (λ a. a ≡ answer_of change) }
-        ensures err { PartOf Working change → OnErr result (shown self.new ≡ shown self.old) }
-        ensures memory { PartOf Working change → IfErr result (λ e. (e ≡ refusal.Memory) × Grows (shown self.old) (changed (shown self.old) change)) }
-    {
-        let Change::Work { answer, .. } = change else {
-            return Ok(Answer::Quiet);
+        let answer = Answer::Events {
+            first: event,
+            second: None,
         };
         self.tell(answer)?;
-        self.work_now(change);
+        self.publish_now(updater, state, splice);
+        Ok(answer)
+    }
+
+    /// An updater's step of a grace period.
+    fn go_through(
+        &mut self,
+        updater: u32,
+        state: UpdaterState<P>,
+        grace: GraceState,
+        answer: Answer,
+    ) -> Result<Answer, StepError>
+        ensures ok { OnOk result (shown self.new ≡ changed (shown self.old) (Grace updater state grace answer)) }
+        ensures answer { IfOk result (λ a. a ≡ answer) }
+        ensures err { OnErr result (shown self.new ≡ shown self.old) }
+        ensures memory { IfErr result (λ e. (e ≡ refusal.Memory) × Grows (shown self.old) (changed (shown self.old) (Grace updater state grace answer))) }
+    {
+        self.tell(answer)?;
+        put(&mut self.updaters, updater as usize, state);
+        self.grace = grace;
+        Ok(answer)
+    }
+
+    /// An updater takes a queue's lock, and a place in the queue is reserved.
+    fn hold(
+        &mut self,
+        updater: u32,
+        state: UpdaterState<P>,
+        queue: u32,
+    ) -> Result<Answer, StepError>
+        ensures ok { OnOk result (shown self.new ≡ changed (shown self.old) (Hold updater state queue)) }
+        ensures answer { IfOk result (λ a. a ≡ Quiet) }
+        ensures err { OnErr result (shown self.new ≡ shown self.old) }
+        ensures memory { IfErr result (λ e. (e ≡ refusal.Memory) × Grows (shown self.old) (changed (shown self.old) (Hold updater state queue))) }
+    {
+        hold_queue(&mut self.queues, queue as usize, updater)?;
+        put(&mut self.updaters, updater as usize, state);
+        Ok(Answer::Quiet)
+    }
+
+    /// An updater's step with a queue that it has locked.
+    fn retire(
+        &mut self,
+        updater: u32,
+        state: UpdaterState<P>,
+        queue: u32,
+        act: QueueAct,
+        mark: Option<Mark>,
+        answer: Answer,
+    ) -> Result<Answer, StepError>
+        requires { MayActAt act (slice_get (shown self.old).queues queue) }
+        ensures ok { OnOk result (shown self.new ≡ changed (shown self.old) (Retire updater state queue act mark answer)) }
+        ensures answer { IfOk result (λ a. a ≡ answer) }
+        ensures err { OnErr result (shown self.new ≡ shown self.old) }
+        ensures memory { IfErr result (λ e. (e ≡ refusal.Memory) × Grows (shown self.old) (changed (shown self.old) (Retire updater state queue act mark answer))) }
+    {
+        self.tell(answer)?;
+        self.act_now(queue, act, mark);
+        put(&mut self.updaters, updater as usize, state);
+        Ok(answer)
+    }
+
+    /// An updater's step of a barrier.
+    fn bar(
+        &mut self,
+        updater: u32,
+        state: UpdaterState<P>,
+        barriers: u64,
+        answer: Answer,
+    ) -> Result<Answer, StepError>
+        ensures ok { OnOk result (shown self.new ≡ changed (shown self.old) (Bar updater state barriers answer)) }
+        ensures answer { IfOk result (λ a. a ≡ answer) }
+        ensures err { OnErr result (shown self.new ≡ shown self.old) }
+        ensures memory { IfErr result (λ e. (e ≡ refusal.Memory) × Grows (shown self.old) (changed (shown self.old) (Bar updater state barriers answer))) }
+    {
+        self.tell(answer)?;
+        put(&mut self.updaters, updater as usize, state);
+        self.barriers = barriers;
+        Ok(answer)
+    }
+
+    /// Makes a worker's step with its queue, and answers what it tells. `Memory` where there is none for that: then all
+    /// is as it was. Where the log has room for it, it is never refused.
+    pub fn work(
+        &mut self,
+        worker: u32,
+        state: WorkerState<P>,
+        grace: GraceState,
+        act: QueueAct,
+        mark: Option<Mark>,
+        answer: Answer,
+    ) -> Result<Answer, StepError>
+        requires { MayActAt act (slice_get (shown self.old).queues worker) }
+        ensures ok { OnOk result (shown self.new ≡ changed (shown self.old) (Work worker state grace act mark answer)) }
+        ensures answer { IfOk result (λ a. a ≡ answer) }
+        ensures err { OnErr result (shown self.new ≡ shown self.old) }
+        ensures memory { IfErr result (λ e. (e ≡ refusal.Memory) × Grows (shown self.old) (changed (shown self.old) (Work worker state grace act mark answer))) }
+        ensures room { length ((shown self.old).log ++ told answer) ≤ vec_capacity self.old.log → IsOk result }
+        ensures capacity { vec_capacity self.old.log ≤ vec_capacity self.new.log }
+    {
+        self.tell(answer)?;
+        self.work_now(worker, state, grace, act, mark);
         Ok(answer)
     }
 
     /// What a worker's step changes beside the log.
-    fn work_now(&mut self, change: Change<P>)
-        requires { MayMake (shown self.old) change }
-        ensures world { PartOf Working change → shown self.new ≡ record (changed (shown self.old) change) { log = (shown self.old).log } }
+    pub fn work_now(
+        &mut self,
+        worker: u32,
+        state: WorkerState<P>,
+        grace: GraceState,
+        act: QueueAct,
+        mark: Option<Mark>,
+    )
+        requires { MayActAt act (slice_get (shown self.old).queues worker) }
+        ensures world { shown self.new ≡ record (shown self.old) { queues = acted_at (shown self.old).queues worker act; objects = marked_life (shown self.old).objects mark; workers = slice_set (shown self.old).workers worker state; grace = grace } }
         ensures log { self.new.log ≡ self.old.log }
     {
-        if let Change::Work {
-            worker,
-            state,
-            grace,
-            act,
-            mark,
-            ..
-        } = change
-        {
-            self.act_now(worker, act, mark);
-            put(&mut self.workers, worker as usize, state);
-            self.grace = grace;
-        }
+        self.act_now(worker, act, mark);
+        put(&mut self.workers, worker as usize, state);
+        self.grace = grace;
     }
 
     /// What a step changes of a queue, and of an object with it.
-    pub fn act_now(&mut self, queue: u32, act: QueueAct, mark: Option<Mark>)
+    fn act_now(&mut self, queue: u32, act: QueueAct, mark: Option<Mark>)
         requires { MayActAt act (slice_get (shown self.old).queues queue) }
         ensures world { shown self.new ≡ record (shown self.old) { queues = acted_at (shown self.old).queues queue act; objects = marked_life (shown self.old).objects mark } }
         ensures log { self.new.log ≡ self.old.log }
@@ -269,36 +327,22 @@ impl<P: WorldPlan + Drop> Kept<P> {
         mark_object(&mut self.objects, mark);
     }
 
-    /// An updater's store into a chain.
+    /// What an updater's store into a chain changes beside the log.
     fn publish_now(&mut self, updater: u32, state: UpdaterState<P>, splice: Splice)
         ensures { shown self.new ≡ record (shown self.old) { updaters = slice_set (shown self.old).updaters updater state; heads = spliced_heads (shown self.old).heads splice; objects = spliced_objects (shown self.old).objects splice } }
     {
         put(&mut self.updaters, updater as usize, state);
-        self.splice(splice);
-    }
-
-    /// One store into a chain, and the bookkeeping beside it.
-    fn splice(&mut self, splice: Splice)
-        ensures heads { self.new.heads.items ≡ spliced_heads self.old.heads.items splice }
-        ensures objects { self.new.objects.items ≡ spliced_objects self.old.objects.items splice }
-        ensures layout { self.new.layout ≡ self.old.layout }
-        ensures readers { self.new.readers ≡ self.old.readers }
-        ensures updaters { self.new.updaters ≡ self.old.updaters }
-        ensures workers { self.new.workers ≡ self.old.workers }
-        ensures queues { self.new.queues ≡ self.old.queues }
-        ensures barriers { self.new.barriers ≡ self.old.barriers }
-        ensures grace { self.new.grace ≡ self.old.grace }
-        ensures log { self.new.log ≡ self.old.log }
-    {
         splice_heads(&mut self.heads, splice);
         splice_objects(&mut self.objects, splice);
     }
 
-    /// Adds the events of an answer to the log. `Memory` adds none.
-    pub fn tell(&mut self, answer: Answer) -> Result<(), StepError>
+    /// Adds the events of an answer to the log. `Memory` adds none, and comes only where the log has no room for them.
+    fn tell(&mut self, answer: Answer) -> Result<(), StepError>
         ensures ok { OnOk result (shown self.new ≡ record (shown self.old) { log = (shown self.old).log ++ told answer }) }
         ensures err { OnErr result (shown self.new ≡ shown self.old) }
         ensures memory { IfErr result (λ e. (e ≡ refusal.Memory) × (0 < length (told answer))) }
+        ensures room { length ((shown self.old).log ++ told answer) ≤ vec_capacity self.old.log → IsOk result }
+        ensures capacity { vec_capacity self.old.log ≤ vec_capacity self.new.log }
     {
         let Answer::Events { first, second } = answer else {
             return Ok(());
@@ -315,34 +359,6 @@ impl<P: WorldPlan + Drop> Kept<P> {
         self.log.push_reserved(first);
         self.log.push_reserved(second);
         Ok(())
-    }
-
-    /// Makes a change of a worker, for whose events the log has room.
-    pub fn commit_work(&mut self, change: Change<P>)
-        requires may { MayMake (shown self.old) change }
-        requires room { length (changed (shown self.old) change).log ≤ vec_capacity self.old.log }
-        ensures world { PartOf Working change → shown self.new ≡ changed (shown self.old) change }
-        ensures room { vec_capacity self.new.log ≡ vec_capacity self.old.log }
-    {
-        if let Change::Work { answer, .. } = change {
-            self.tell_in_place(answer);
-            self.work_now(change);
-        }
-    }
-
-    /// Adds the events of an answer to the log, which has room for them.
-    fn tell_in_place(&mut self, answer: Answer)
-        requires { length ((shown self.old).log ++ told answer) ≤ vec_capacity self.old.log }
-        ensures log { shown self.new ≡ record (shown self.old) { log = (shown self.old).log ++ told answer } }
-        ensures room { vec_capacity self.new.log ≡ vec_capacity self.old.log }
-    {
-        let Answer::Events { first, second } = answer else {
-            return;
-        };
-        self.log.push_reserved(first);
-        if let Some(event) = second {
-            self.log.push_reserved(event);
-        }
     }
 }
 

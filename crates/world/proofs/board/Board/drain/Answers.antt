@@ -1,7 +1,7 @@
-use Rattle.world.proofs.Cited.{◌≡◌, ◌+◌, ◌-◌, List, length, Result, Ok, Err, false, true≢false, inr, sym, ap, ◌∙◌, subst, refl, arith, vec_capacity, is_err, OnOk, Event, Worker, Plans, plans_of, WorkerVerb, drain_lines, outcome_of, world_after, shown, IsInRange}
-use Rattle.world.proofs.DrainSteps.{AreSound, all_go_on, Round, round, drained_none, tells, loop_first, drained}
+use Rattle.world.proofs.Cited.{◌≡◌, ◌+◌, ◌≤◌, List, length, Result, Ok, Err, false, true≢false, inr, sym, ap, ◌∙◌, subst, refl, arith, vec_capacity, is_err, OnOk, Event, Worker, BoardView, Plans, plans_of, WorkerVerb, outcome_of, shown, IsInRange}
+use Rattle.world.proofs.DrainSteps.{AreSound, all_go_on, round, made_in_room, drained_none, tells, first_fits, loop_first, drained}
 use Rattle.world.proofs.board.Board.drain.Given as given
-use Rattle.world.proofs.board.Board.drain.Goals.{In-loop, then-items-ge-END_OF_NUMBERS-via-then-items-ge-END_OF_NUMBERS, then-items-ge-END_OF_NUMBERS-via-else-items-ge-END_OF_NUMBERS+then-is_err}
+use Rattle.world.proofs.board.Board.drain.Goals.{then-items-ge-END_OF_NUMBERS-via-then-items-ge-END_OF_NUMBERS, then-items-ge-END_OF_NUMBERS-via-else-items-ge-END_OF_NUMBERS+then-is_err}
 use Rattle.world.proofs.board.Board.drain.Goals as goal
 
 abbrev plans : (g : given.Over) → Plans g.row.P.Denot
@@ -37,8 +37,8 @@ returns-then-items-ge-END_OF_NUMBERS g c =
       | then-items-ge-END_OF_NUMBERS-via-else-items-ge-END_OF_NUMBERS+then-is_err w ↦ (ap shown w.self-is ∙ ap (λ (l : List Event). record (shown c.args.self.now) { log = l }) w.reserve.ensures.items, inr (refl, log_told))
     ]
 
-pub work-requires-clause-range : goal.work-requires-clause-range
-work-requires-clause-range g c = subst (IsInRange (plans g)) (ap (λ (l : List Event). record (shown c.args.self.now) { log = l }) (sym c.reserve.ensures.items)) (c.numbers_stay_in_range.ensures (shown c.args.self.now) c.requires)
+pub take-requires : goal.take-requires
+take-requires g c = subst (IsInRange (plans g)) (ap (λ (l : List Event). record (shown c.args.self.now) { log = l }) (sym c.reserve.ensures.items)) (c.numbers_stay_in_range.ensures (shown c.args.self.now) c.requires)
 
 ok_holds : {A B F : Type 0} (r : Result A B) → is_err r ≡ false → OnOk r F → F
 ok_holds (Ok a) e h = h
@@ -47,27 +47,26 @@ ok_holds (Err b) e h = absurd (true≢false e)
 pub loop-init : goal.loop-init
 loop-init g c =
     let old = shown c.args.self.now in
+    let same : record old { log = c.reserve.new.self.items } ≡ old = ap (λ (l : List Event). record old { log = l }) c.reserve.ensures.items in
     let room = ok_holds c.reserve.result (sym c.is_err.ensures.value ∙ c.if-is_err.false) c.reserve.ensures.ok in
-    loop_first (plans g) old c.args.worker c.in_ok-items.items (sym c.items_to_drain.ensures ∙ c.in_ok-items.was) (c.workers_rest.ensures old c.requires) (sound g) (omega (arith, c.if-items-eq0.false)) (shown c.work.new.self) c.steps_for-steps.result (vec_capacity c.work.new.self.kept.log)
-    c.steps_for-steps.ensures c.requires (c.work.ensures.world ∙ ap (λ (l : List Event). (outcome_of (plans g) (record old { log = l }) (Worker c.args.worker WorkerVerb.Take)).world) c.reserve.ensures.items)
-    (omega (arith, room, c.work.ensures.room, c.reserve.ensures.len, c.args.self.now.kept.log.ok))
+    let e = sym c.items_to_drain.ensures ∙ c.in_ok-items.was in
+    let settled = c.workers_rest.ensures old c.requires in
+    let some : 1 ≤ c.in_ok-items.items = omega (arith, c.if-items-eq0.false) in
+    let fits : length old.log + (c.in_ok-items.items + 2) ≤ vec_capacity c.reserve.new.self = omega (arith, room, c.reserve.ensures.len, c.args.self.now.kept.log.ok) in
+    let taken = made_in_room (outcome_of (plans g) (record old { log = c.reserve.new.self.items }) (Worker c.args.worker WorkerVerb.Take)) _ (shown c.take.new.self) c.take.result c.take.ensures.step
+    (c.take.ensures.in_room (subst (λ (w : BoardView _). length ((outcome_of (plans g) w (Worker c.args.worker WorkerVerb.Take)).world).log ≤ vec_capacity c.reserve.new.self) (sym same) (first_fits (plans g) old c.args.worker c.in_ok-items.items e settled (sound g) some (vec_capacity c.reserve.new.self) fits))) in
+    loop_first (plans g) old c.args.worker c.in_ok-items.items e settled (sound g) some (shown c.take.new.self) c.steps_for-steps.result (vec_capacity c.take.new.self.kept.log)
+    c.steps_for-steps.ensures c.requires (taken ∙ ap (λ (w : BoardView _). (outcome_of (plans g) w (Worker c.args.worker WorkerVerb.Take)).world) same)
+    (omega (arith, fits, c.take.ensures.room))
 
-pub work-requires-in-loop-clause-range : goal.work-requires-in-loop-clause-range
-work-requires-in-loop-clause-range g c = c.numbers_stay_in_range.ensures (shown c.loop.self) c.loop.invariant.reached
-
--- each round of the loop
-rounds : (g : given.Over) (c : In-loop g) → Round (plans g) (world_after (plans g) (shown c.args.self.now) (drain_lines c.args.worker c.steps_for-steps.result)) (shown c.loop.self) c.args.worker
-    (c.steps_for-steps.result - (c.loop.counter + 1)) (length (shown c.args.self.now).log + (c.in_ok-items.items + 2)) (vec_capacity c.loop.self.kept.log)
-rounds g c = round (plans g) (sound g) _ (shown c.loop.self) c.args.worker c.loop.counter c.steps_for-steps.result _ _ c.loop-test.true c.loop.invariant
-
-pub work-requires-in-loop-clause-work : goal.work-requires-in-loop-clause-work
-work-requires-in-loop-clause-work g c = (rounds g (goal.at.work-requires-in-loop-clause-work g c).In-loop).work
-
-pub work-requires-in-loop-clause-room : goal.work-requires-in-loop-clause-room
-work-requires-in-loop-clause-room g c = (rounds g (goal.at.work-requires-in-loop-clause-room g c).In-loop).fits
+pub work_on-requires : goal.work_on-requires
+work_on-requires g c = c.numbers_stay_in_range.ensures (shown c.loop.self) c.loop.invariant.reached
 
 pub loop-preserved : goal.loop-preserved
-loop-preserved g c = rw (c.work-in-loop.ensures.world, c.work-in-loop.ensures.room) (rounds g (goal.at.loop-preserved g c).In-loop).under
+loop-preserved g c =
+    let r = round (plans g) (sound g) _ (shown c.loop.self) c.args.worker c.loop.counter c.steps_for-steps.result _ _ c.loop-test.true c.loop.invariant in
+    rw (made_in_room (outcome_of (plans g) (shown c.loop.self) (Worker c.args.worker WorkerVerb.GoOn)) (shown c.loop.self) (shown c.work_on.new.self) c.work_on.result c.work_on.ensures.step (c.work_on.ensures.in_room r.fits))
+    (r.under (vec_capacity c.work_on.new.self.kept.log) c.work_on.ensures.room)
 
 pub returns : goal.returns
 returns g c =
